@@ -6,7 +6,9 @@
 mod evidence;
 mod label;
 mod moment;
+mod steps;
 
 pub use evidence::{Failed, Part, Place, Span};
 pub use label::Label;
 pub use moment::{Class, Moment};
+pub use steps::Steps;
