@@ -1,0 +1,124 @@
+-- The whole answer: a function of the words and of the files, and what an examination makes of it.
+use Rattle.std.specs.Prelude.{◌≡◌, ◌⊎◌, ℕ, ◌<◌, Bool, IsTrue, List, [], Option, None, Some, Result, Ok, Err, IfSome, IfErr, IsErrOf, ⊤}
+use Rattle.std.specs.Io.KnownBytes.{Appends, Keeps}
+use Rattle.sx_base.specs.Causes.{Rose}
+use Rattle.sx_base.specs.Files.{Files}
+use Rattle.sx_base.specs.declared.evidence.Part.{Part}
+use Rattle.sx_base.specs.declared.evidence.Part.TheVariants as parts
+use Rattle.sx_edge.specs.declared.whole_file.TheConstants.{GREATEST_FILE}
+use Rattle.sx_words.specs.Words.{Asked, Timeline}
+use Rattle.sx_app.specs.Evidence.{◌>>=◌, evidence_of, Has}
+use Rattle.sx_app.specs.Refusals.{refusal_text}
+use Rattle.sx_app.specs.Texts.{text_of, AppendsSome}
+use Rattle.sx_app.specs.Timeline.{timeline_lines}
+use Rattle.sx_app.specs.declared.refused.Refused.{Refused}
+use Rattle.sx_app.specs.declared.refused.Refused.TheVariants.{Usage, NoDatabase, BadHeader, TooLarge, NoMoment, Unreadable, NoTable, NoByte, ReadFault, WriteFault, Memory, NoTree, NotBuilt}
+
+-- the lines that the words ask for, or why there are none: one case a command
+abbrev pub reply : Option Asked → Files → Result (List (List ℕ)) Refused
+reply None files = Err Usage
+reply (Some (Timeline db)) files = evidence_of files db >>= λ opened. Ok (timeline_lines opened)
+
+-- the part of the evidence that the words name, the database where they name none
+abbrev pub part_asked : Option Asked → Part
+part_asked None = parts.Database
+part_asked (Some (Timeline db)) = parts.Database
+
+-- an answer: how the examination ends, and what it prints
+pub record Answer : Type 0 where
+  pub result : Result (Unit {0}) Refused
+  pub text : List ℕ
+
+-- lines as an answer, or a refusal with its text
+abbrev pub answered : Part → Result (List (List ℕ)) Refused → Answer
+answered part (Ok lines) = record { result = Ok tt; text = text_of lines }
+answered part (Err refused) = record { result = Err refused; text = refusal_text part refused }
+
+-- the answer to what the words ask for, over these files
+abbrev pub answer : Option Asked → Files → Answer
+answer asked files = answered (part_asked asked) (reply asked files)
+
+-- the answer to words that need no store
+abbrev pub storeless : Option Asked → Option Answer
+storeless None = Some (answered parts.Database (Err Usage))
+storeless (Some (Timeline db)) = None
+
+-- What an examination did of its answer: it ended so, and the sink took exactly its text. After a read fault the sink
+-- took nothing, and after a write fault or want of memory some front of the text.
+abbrev pub Answers : Answer → Option (List ℕ) → Option (List ℕ) → Result (Unit {0}) Refused → Type 0
+Answers answer old new (Err ReadFault) = Keeps old new
+Answers answer old new (Err WriteFault) = AppendsSome old new answer.text
+Answers answer old new (Err Memory) = AppendsSome old new answer.text
+Answers answer old new result = (result ≡ answer.result) × Appends old new answer.text
+
+-- what a refusal printed, over every store: its own text, but nothing after a read fault
+abbrev pub Prints : Part → Option (List ℕ) → Option (List ℕ) → Refused → Type 0
+Prints part old new ReadFault = Keeps old new
+Prints part old new WriteFault = ⊤
+Prints part old new Memory = ⊤
+Prints part old new refused = Appends old new (refusal_text part refused)
+
+-- which refusals the words of a timeline may meet
+abbrev pub MayMeetTimeline : List ℕ → Option Files → Refused → Type 0
+MayMeetTimeline db contents NoDatabase = ⊤
+MayMeetTimeline db contents (BadHeader fault) = ⊤
+MayMeetTimeline db contents (TooLarge part) = ⊤
+MayMeetTimeline db contents ReadFault = ⊤
+MayMeetTimeline db contents WriteFault = ⊤
+MayMeetTimeline db contents Memory = Has contents db
+MayMeetTimeline db contents NotBuilt = ⊤
+MayMeetTimeline db contents refused = ⊥
+
+-- which refusals words outside the grammar may meet
+abbrev pub MayMeetUsage : Refused → Type 0
+MayMeetUsage Usage = ⊤
+MayMeetUsage WriteFault = ⊤
+MayMeetUsage refused = ⊥
+
+-- which refusals words may meet over any store
+abbrev pub MayAnswer : Option Asked → Option Files → Refused → Type 0
+MayAnswer None contents refused = MayMeetUsage refused
+MayAnswer (Some (Timeline db)) contents refused = MayMeetTimeline db contents refused
+
+-- which end the words may come to before the first byte: lines, on the way to which memory might have run out, or a
+-- refusal, but no fault of a sink
+abbrev pub MayEnd : {T : Type 0} → Option Asked → Option Files → Result T Refused → Type 0
+MayEnd asked contents (Ok lines) = MayAnswer asked contents Memory
+MayEnd asked contents (Err WriteFault) = ⊥
+MayEnd asked contents (Err refused) = MayAnswer asked contents refused
+
+-- what can keep lines from being written: the sink failed, or memory ran out
+abbrev pub IsUnwritten : Refused → Type 0
+IsUnwritten WriteFault = ⊤
+IsUnwritten Memory = ⊤
+IsUnwritten refused = ⊥
+
+-- refusals whose text has a number, which takes memory to write
+abbrev pub HasNumber : Refused → Type 0
+HasNumber (NoMoment commits) = ⊤
+HasNumber (Unreadable moment) = ⊤
+HasNumber (NoByte length) = ⊤
+HasNumber refused = ⊥
+
+-- how an examination that was refused ends: so, unless its text couldn't be written
+abbrev pub Ends : Refused → Refused → Type 0
+Ends refused WriteFault = ⊤
+Ends refused Memory = (refused ≡ Memory) ⊎ HasNumber refused
+Ends refused end = end ≡ refused
+
+-- All that an examination owes, over every store and every sink: the counts of faults before and now, whether the last
+-- start answered that there is no such file, the bytes given since, and what the sink has taken before and now.
+pub record IsExamined (asked : Option Asked) (contents : Option Files) (store_before store_now : ℕ) (absent : Bool) (given : ℕ) (taken_before taken_now : Option (List ℕ)) (sink_before sink_now : ℕ) (result : Result (Unit {0}) Refused) : Type 0 where
+  -- where the store tells its files: the answer to the words over them
+  pub told : IfSome contents (λ files. Answers (answer asked files) taken_before taken_now result)
+  -- words that need no store have one answer over all of them
+  pub storeless : IfSome (storeless asked) (λ answer. Answers answer taken_before taken_now result)
+  -- which refusals the words may meet
+  pub may : IfErr result (MayAnswer asked contents)
+  -- what a refusal printed
+  pub prints : IfErr result (Prints (part_asked asked) taken_before taken_now)
+  -- why each came
+  pub no_database : IsErrOf result NoDatabase → IsTrue absent
+  pub too_large : (part : Part) → IsErrOf result (TooLarge part) → GREATEST_FILE < given
+  pub read_fault : IsErrOf result ReadFault → Rose store_before store_now
+  pub write_fault : IsErrOf result WriteFault → Rose sink_before sink_now

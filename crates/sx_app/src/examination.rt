@@ -1,0 +1,64 @@
+//! The top call.
+ghost use Rattle.std.specs.Prelude.{◌≡◌, ◌<◌, Some, Err, IfErr, IfSome, IsErrOf, IsTrue};
+ghost use Rattle.sx_base.specs.Causes.{Rose};
+ghost use Rattle.sx_base.specs.declared.evidence.Part.{Part};
+ghost use Rattle.sx_edge.specs.declared.whole_file.TheConstants.{GREATEST_FILE};
+ghost use Rattle.sx_words.specs.Words.{texts, request_of, asked_by};
+ghost use Rattle.sx_app.specs.Answers.{Answers, answer, storeless, part_asked, MayAnswer, Prints, IsExamined};
+
+use crate::prepared::{part_of, prepare, write};
+use crate::refusals::refuse;
+use crate::refused::Refused;
+use std::alloc::Global;
+use sx_base::Part;
+use sx_edge::{Sink, Store};
+use sx_words::{Request, read_words};
+
+/// Examines the evidence that the words name, and writes the answer.
+///
+/// The answer is a function of the words and of the store's files alone: its lines, or a refusal with its text. All
+/// reads and all refusals are decided before the first byte is written. `ReadFault` comes only where the store failed
+/// in this call, and then nothing is written; `WriteFault` only where the sink failed, and `Memory` where memory ran
+/// out: then a front of the answer's text is written. Words outside the grammar and a database that isn't there are
+/// refused without memory. The cost is that of reading the files and of writing the text.
+pub fn examine<S: Store, W: Sink>(
+    alloc: Global,
+    words: &[String],
+    store: &mut S,
+    out: &mut W,
+) -> Result<(), Refused>
+    // Over a store that tells its files: the answer, and exactly its text.
+    ensures told { IfSome (S.contents store.old) (λ files.
+        Answers (answer (request_of (texts words.now)) files) (W.taken out.old) (W.taken out.new) result) }
+
+    // Over every store and every sink.
+    ensures storeless { IfSome (storeless (request_of (texts words.now))) (λ answer.
+        Answers answer (W.taken out.old) (W.taken out.new) result) }
+    ensures may { IfErr result (MayAnswer (request_of (texts words.now)) (S.contents store.old)) }
+    ensures prints { IfErr result (Prints (part_asked (request_of (texts words.now))) (W.taken out.old) (W.taken out.new)) }
+    ensures no_database { IsErrOf result Refused.NoDatabase → IsTrue (S.absent store.new) }
+    ensures too_large { (part : Part) → IsErrOf result (Refused.TooLarge part) → GREATEST_FILE < S.given store.new }
+    ensures read_fault { IsErrOf result Refused.ReadFault → Rose (S.faults store.old) (S.faults store.new) }
+    ensures write_fault { IsErrOf result Refused.WriteFault → Rose (W.faults out.old) (W.faults out.new) }
+{
+    match read_words(words) {
+        Ok(request) => carry_out(alloc, &request, store, out),
+        Err(_) => Err(refuse(alloc, Part::Database, Refused::Usage, out)),
+    }
+}
+
+// What a request asks for.
+fn carry_out<S: Store, W: Sink>(
+    alloc: Global,
+    request: &Request<'_>,
+    store: &mut S,
+    out: &mut W,
+) -> Result<(), Refused>
+    ensures { IsExamined (Some (asked_by request.now)) (S.contents store.old) (S.faults store.old) (S.faults store.new)
+        (S.absent store.new) (S.given store.new) (W.taken out.old) (W.taken out.new) (W.faults out.old) (W.faults out.new) result }
+{
+    match prepare(alloc, request, store) {
+        Ok(prepared) => write(alloc, prepared, out),
+        Err(refused) => Err(refuse(alloc, part_of(request), refused, out)),
+    }
+}

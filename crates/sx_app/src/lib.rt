@@ -1,0 +1,14 @@
+//! The examiner's top call: from the words and the files of a store to the text that a sink takes.
+#![tactic(auto)]
+
+mod evidence;
+mod examination;
+mod lines;
+mod loaded;
+mod prepared;
+mod refusals;
+mod refused;
+mod timeline;
+
+pub use examination::examine;
+pub use refused::{Refused, status};
