@@ -4,12 +4,18 @@
 //! whole piece.
 #![tactic(auto)]
 
+mod shelf;
 mod sink;
 mod store;
+mod tray;
+mod trip;
 mod whole_file;
 mod whole_piece;
 
+pub use shelf::{Shelf, names_differ};
 pub use sink::Sink;
 pub use store::Store;
+pub use tray::Tray;
+pub use trip::Trip;
 pub use whole_file::{GREATEST_FILE, LoadRefused, load};
 pub use whole_piece::put_all;
