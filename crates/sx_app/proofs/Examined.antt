@@ -152,7 +152,7 @@ module _ {T : Type 0} (asked : Asked) (contents : Option Files) (store_before st
       → IsExamined (Some asked) contents store_before store_now absent given taken_before taken_now sink_before sink_now (Err end)
   examined_refused part refused end named told causes may answers prints ends cause = record {
     told = told_refused (Some asked) contents refused end taken_before taken_now told ends
-      (subst (λ (p : Part). Answers (answered p (Err refused)) taken_before taken_now (Err end)) named answers);
+        (subst (λ (p : Part). Answers (answered p (Err refused)) taken_before taken_now (Err end)) named answers);
     storeless = storeless_none asked (λ answer. Answers answer taken_before taken_now (Err end));
     may = refused_may (Some asked) contents refused end ends (end_may (Some asked) contents refused may);
     prints = subst (λ (p : Part). Prints p taken_before taken_now end) named prints;

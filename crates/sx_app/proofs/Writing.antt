@@ -51,9 +51,9 @@ written_front old now new whole rest later line so_far next some =
     let behind : text_of rest ≡ line ++ text_of later = next_first rest later line next in
     let taken : take (length front + n) (text_of whole) ≡ front ++ take n line =
     ap (take (length front + n)) so_far.joined
-        ∙ take-append-add front (text_of rest) n
-        ∙ ap (λ l. front ++ take n l) behind
-        ∙ ap (λ l. front ++ l) (take-append-le n line (text_of later) some.1) in
+    ∙ take-append-add front (text_of rest) n
+    ∙ ap (λ l. front ++ take n l) behind
+    ∙ ap (λ l. front ++ l) (take-append-le n line (text_of later) some.1) in
     let within : length front + n ≤ length (text_of whole) =
     omega (arith, some.1, ap length so_far.joined, ap length behind, length-append front (text_of rest), length-append line (text_of later)) in
     (length front + n, within, subst (Appends old new) (sym taken) (Appends-trans old now new front (take n line) so_far.appended some.2))

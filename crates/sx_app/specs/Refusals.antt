@@ -35,8 +35,8 @@ fault_name faults.Encoding = codes "encoding"
 abbrev pub usage_lines : List (List ℕ)
 usage_lines =
     codes "usage: <db> timeline | show table=T [at=M] | map [at=M] | page no=N [at=M] | carve [at=M|all] | explain part=P byte=N [at=M] | report"
-        ∷ codes "usage: drill seed=N leaves=N commits=N"
-        ∷ []
+    ∷ codes "usage: drill seed=N leaves=N commits=N"
+    ∷ []
 
 -- the one line of a refusal
 abbrev pub refusal : List ℕ → List (List ℕ)

@@ -21,11 +21,11 @@ file_size opened =
 unfoldable pub database_line : Opened → List ℕ
 database_line opened =
     codes "database pagesize "
-        ++ decimal opened.header.page_size
-        ++ codes " usable "
-        ++ decimal opened.header.usable
-        ++ codes " pages "
-        ++ decimal (whole_pages opened)
+    ++ decimal opened.header.page_size
+    ++ codes " usable "
+    ++ decimal opened.header.usable
+    ++ codes " pages "
+    ++ decimal (whole_pages opened)
 
 -- the second line, of a write-ahead log that isn't there
 unfoldable pub wal_line : List ℕ

@@ -16,11 +16,7 @@ use sx_header::read_header;
 /// The refusals come in this order: a read fault, no database, a database that is too large; its header; a read fault
 /// at the start of a companion; a companion that is there. Memory may run out at each step.
 #[tactic(auto, unfolding(crate::specs::Evidence::evidence_of))]
-pub fn open_evidence<S: Store>(
-    alloc: Global,
-    store: &mut S,
-    db: &str,
-) -> Result<Loaded, Refused>
+pub fn open_evidence<S: Store>(alloc: Global, store: &mut S, db: &str) -> Result<Loaded, Refused>
     ensures told { IfSome (S.contents store.old) (λ files. Gives opened_by result (evidence_of files db.now)) }
     ensures causes { HasCauses (S.faults store.old) (S.faults store.new) (S.absent store.new) (S.given store.new) result }
     ensures may { IfErr result MayMeet }

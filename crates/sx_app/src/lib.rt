@@ -12,3 +12,6 @@ mod timeline;
 
 pub use examination::examine;
 pub use refused::{Refused, status};
+
+#[cfg(test)]
+mod tests;

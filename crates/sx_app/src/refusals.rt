@@ -15,7 +15,8 @@ use sx_edge::Sink;
 use sx_header::HeaderFault;
 
 /// How the program is used.
-const USAGE: &str = "usage: <db> timeline | show table=T [at=M] | map [at=M] | page no=N [at=M] | carve [at=M|all] | explain part=P byte=N [at=M] | report\nusage: drill seed=N leaves=N commits=N\n";
+const USAGE: &str =
+    "usage: <db> timeline | show table=T [at=M] | map [at=M] | page no=N [at=M] | carve [at=M|all] | explain part=P byte=N [at=M] | report\nusage: drill seed=N leaves=N commits=N\n";
 
 /// Writes the text of a refusal, and answers how the examination ends: with this refusal, unless its text couldn't be
 /// written. `part` is the part of the evidence that the words name.

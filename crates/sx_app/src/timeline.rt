@@ -55,7 +55,10 @@ fn put_database_line(loaded: &Loaded, line: &mut String) -> Result<(), AllocErro
     let usable = loaded.header.usable;
     let pages = loaded.whole_pages();
     line.clear();
-    writeln!(line, "database pagesize {page_size} usable {usable} pages {pages}")
+    writeln!(
+        line,
+        "database pagesize {page_size} usable {usable} pages {pages}"
+    )
 }
 
 // Puts the line of the database file without its write-ahead log into `line`.

@@ -9,4 +9,4 @@ returns-in-Ok g c =
 pub returns-in-Err : goal.returns-in-Err
 returns-in-Err g c =
     examined_refused _ _ _ _ _ _ _ _ _ _ _ _ _ c.part_of.ensures c.in-Err.ensures.told c.in-Err.ensures.causes c.in-Err.ensures.may c.refuse.ensures.answers
-        c.refuse.ensures.prints c.refuse.ensures.ends c.refuse.ensures.cause
+    c.refuse.ensures.prints c.refuse.ensures.ends c.refuse.ensures.cause
