@@ -4,3 +4,4 @@ pub mod Loads
 pub mod Tray
 pub mod Trips
 pub mod Shelf
+pub mod Adapters

@@ -4,18 +4,26 @@
 //! whole piece.
 #![tactic(auto)]
 
+mod disk;
+mod retry;
 mod shelf;
 mod sink;
 mod store;
+mod stream;
 mod tray;
 mod trip;
 mod whole_file;
 mod whole_piece;
 
+pub use disk::DiskStore;
 pub use shelf::{Shelf, names_differ};
 pub use sink::Sink;
 pub use store::Store;
+pub use stream::StreamSink;
 pub use tray::Tray;
 pub use trip::Trip;
 pub use whole_file::{GREATEST_FILE, LoadRefused, load};
 pub use whole_piece::put_all;
+
+#[cfg(test)]
+mod tests;
