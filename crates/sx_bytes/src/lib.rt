@@ -1,0 +1,10 @@
+//! Numbers in the bytes of the evidence, the sizes of its pages and the encodings of its texts.
+#![tactic(auto)]
+
+mod encoding;
+mod number;
+mod page_size;
+
+pub use encoding::Encoding;
+pub use number::{be16, be24, be32, be48, be64};
+pub use page_size::can_be_page_size;
