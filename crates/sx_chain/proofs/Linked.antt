@@ -1,0 +1,202 @@
+-- A list of linked numbers grows by one, and one chain of it is followed.
+use Rattle.std.proofs.Common.{◌≡◌, ℕ, ◌+◌, ◌<◌, ◌≤◌, ◌^◌, ◌==◌, Bool, cond, min, List, [], ◌∷◌, ◌++◌, Option, Some, None, length, take, get_or, slice_index, slice_index_or, count_by, nat_eq, refl, sym, ap, ◌∙◌, arith, inl, inr, eqb-true, eq-or-lt_of_le, length-append, length-take-le, take-take}
+use Rattle.std.proofs.Math.Seq.{get_or-append_seam}
+use Rattle.std.proofs.lemmas.List.{get_or-map, get_or_append_left, length-map, map-append, take_more}
+use Rattle.std.proofs.lemmas.List.Sums.{count_by_more_yes, sum_by-take-le}
+use Rattle.sx_chain.specs.declared.node.Node.{Node}
+use Rattle.sx_chain.specs.Newest.{has_number, last_place}
+use Rattle.sx_chain.specs.Links.{IsChained, numbers_of, links_of}
+use Rattle.sx_chain.proofs.Places.{reach, reach_within, last_place-zero, last_place-more, last_place-same, last_place-cut, last_place_passes}
+
+-- a number more at the end leaves the places before it as they are
+has_number-before : (numbers : List ℕ) (last number place : ℕ) → place < length numbers
+    → has_number (numbers ++ last ∷ []) number place ≡ has_number numbers number place
+has_number-before numbers last number place before =
+    ap (λ found. nat_eq found number) (get_or_append_left numbers (last ∷ []) 0 place before)
+
+last_place-before : (numbers : List ℕ) (last number bound : ℕ) → bound ≤ length numbers
+    → last_place (has_number numbers number) bound ≡ last_place (has_number (numbers ++ last ∷ []) number) bound
+last_place-before numbers last number bound within =
+    last_place-same (has_number numbers number) (has_number (numbers ++ last ∷ []) number) bound
+    (λ place below. sym (has_number-before numbers last number place (omega arith)))
+
+linked_case : (numbers : List ℕ) (links : List (Option ℕ)) (head : ℕ → Option ℕ) (number : ℕ) (previous : Option ℕ) (place : ℕ)
+    → IsChained numbers links head → previous ≡ head number → place < length numbers + 1
+    → slice_index_or (links ++ previous ∷ []) place None
+    ≡ last_place (has_number (numbers ++ number ∷ []) (slice_index (numbers ++ number ∷ []) place)) place
+linked_case numbers links head number previous place chained is within =
+    elim (eq-or-lt_of_le within) [
+      | inl last ↦
+          let top : place ≡ length numbers = omega arith in
+          let at_links : place ≡ length links = omega (arith, chained.long) in
+          ap (λ k. get_or (links ++ previous ∷ []) k None) at_links
+          ∙ get_or-append_seam links previous [] None
+          ∙ is
+          ∙ chained.heads number
+          ∙ last_place-before numbers number number (length numbers) (omega arith)
+          ∙ ap (λ found. last_place (has_number (numbers ++ number ∷ []) found) (length numbers)) (sym (get_or-append_seam numbers number [] 0))
+          ∙ ap (λ k. last_place (has_number (numbers ++ number ∷ []) (slice_index (numbers ++ number ∷ []) k)) k) (sym top)
+      | inr before ↦
+          let below : place < length numbers = omega arith in
+          get_or_append_left links (previous ∷ []) None place (omega (arith, chained.long))
+          ∙ chained.linked place below
+          ∙ last_place-before numbers number (slice_index numbers place) place (omega arith)
+          ∙ ap (λ found. last_place (has_number (numbers ++ number ∷ []) found) place) (sym (get_or_append_left numbers (number ∷ []) 0 place below))
+    ]
+
+heads_more : (numbers : List ℕ) (links : List (Option ℕ)) (old : ℕ → Option ℕ) (number asked : ℕ)
+    → IsChained numbers links old
+    → cond (nat_eq number asked) (Some (length numbers)) (old asked)
+    ≡ last_place (has_number (numbers ++ number ∷ []) asked) (length (numbers ++ number ∷ []))
+heads_more numbers links old number asked chained =
+    let all = numbers ++ number ∷ [] in
+    let long : length all ≡ length numbers + 1 = omega (arith, length-append numbers (number ∷ [])) in
+    ap (λ rest. cond (nat_eq number asked) (Some (length numbers)) rest)
+    (chained.heads asked ∙ last_place-before numbers number asked (length numbers) (omega arith))
+    ∙ ap (λ found. cond (nat_eq found asked) (Some (length numbers)) (last_place (has_number all asked) (length numbers)))
+    (sym (get_or-append_seam numbers number [] 0))
+    ∙ sym (last_place-more (has_number all asked) (length numbers))
+    ∙ ap (last_place (has_number all asked)) (sym long)
+
+-- one number more, linked to the head that it replaces
+pub chained_more : (numbers : List ℕ) (links : List (Option ℕ)) (old new : ℕ → Option ℕ) (number : ℕ) (previous : Option ℕ)
+    → IsChained numbers links old → length numbers + 1 < 2 ^ 32 → previous ≡ old number
+    → ((asked : ℕ) → new asked ≡ cond (nat_eq number asked) (Some (length numbers)) (old asked))
+    → IsChained (numbers ++ number ∷ []) (links ++ previous ∷ []) new
+chained_more numbers links old new number previous chained few is heads =
+    let long = length-append numbers (number ∷ []) in
+    let long_links = length-append links (previous ∷ []) in
+    record {
+      few = omega (arith, long);
+      long = omega (arith, long, long_links, chained.long);
+      linked = λ place within. linked_case numbers links old number previous place chained is (omega (arith, long));
+      heads = λ asked. heads asked ∙ heads_more numbers links old number asked chained;
+    }
+
+-- nothing is linked in the empty list
+pub chained_none : (head : ℕ → Option ℕ) → ((asked : ℕ) → head asked ≡ None) → IsChained [] [] head
+chained_none head empty = record {
+  few = omega arith;
+  long = refl;
+  linked = λ place within. absurd (omega arith);
+  heads = λ asked. empty asked ∙ sym (last_place-zero (has_number [] asked));
+}
+
+-- what is known on the way along the chain of a number: `now` steps after `old`, with `found` in hand
+pub record IsAlong (numbers : List ℕ) (number before old now : ℕ) (found : Option ℕ) : Type 0 where
+  pub newest : found ≡ last_place (has_number numbers number) (reach found)
+  pub within : reach found ≤ length numbers
+  pub none_between : last_place (has_number numbers number) (min before (length numbers))
+      ≡ last_place (has_number numbers number) (min before (reach found))
+  pub counted : now + count_by (λ n. n == number) (take (reach found) numbers) ≤ old + count_by (λ n. n == number) numbers
+  pub later : old ≤ now
+
+count_less : (numbers : List ℕ) (number low high : ℕ) → low ≤ high
+    → count_by (λ n. n == number) (take low numbers) ≤ count_by (λ n. n == number) (take high numbers)
+count_less numbers number low high within =
+    let part = sum_by-take-le (λ n. cond (n == number) 1 0) (take high numbers) low in
+    rw take-take at part
+
+newest_of : (test : ℕ → Bool) (n : ℕ) → last_place test n ≡ last_place test (reach (last_place test n))
+newest_of test n =
+    let small = reach_within test n in
+    let cut : min n (reach (last_place test n)) ≡ reach (last_place test n) = omega arith in
+    last_place-cut test n n (omega arith) ∙ ap (last_place test) cut
+
+-- it begins at the head
+pub along_head : (numbers : List ℕ) (number before old : ℕ)
+    → IsAlong numbers number before old old (last_place (has_number numbers number) (length numbers))
+along_head numbers number before old =
+    let test = has_number numbers number in
+    let small = reach_within test (length numbers) in
+    let head = reach (last_place test (length numbers)) in
+    let cut : min (min before (length numbers)) head ≡ min before head = omega arith in
+    record {
+      newest = newest_of test (length numbers);
+      within = small;
+      none_between = last_place-cut test (length numbers) (min before (length numbers)) (omega arith) ∙ ap (last_place test) cut;
+      counted = omega (arith, sum_by-take-le (λ n. cond (n == number) 1 0) numbers head);
+      later = omega arith;
+    }
+
+-- a link is followed where the place in hand is at or past the bound
+pub along_link : (numbers : List ℕ) (number before old now place : ℕ) (next : Option ℕ)
+    → IsAlong numbers number before old now (Some place) → before ≤ place
+    → next ≡ last_place (has_number numbers (slice_index numbers place)) place
+    → IsAlong numbers number before old (now + 1) next
+along_link numbers number before old now place next along past is =
+    let test = has_number numbers number in
+    let here = last_place_passes test (place + 1) place (sym along.newest) in
+    let same : slice_index numbers place ≡ number = eqb-true _ _ here.1 in
+    let link : next ≡ last_place test place = is ∙ ap (λ found. last_place (has_number numbers found) place) same in
+    let small = reach_within test place in
+    let one = count_by_more_yes (λ n. n == number) numbers place 0 (omega (arith, along.within)) here.1 in
+    let less = count_less numbers number (reach (last_place test place)) place small in
+    let cut : min (min before (place + 1)) (reach (last_place test place)) ≡ min before (reach (last_place test place)) = omega arith in
+    let kept : min before (place + 1) ≡ before = omega arith in
+    rw link (record {
+      newest = newest_of test place;
+      within = omega (arith, along.within, small);
+      none_between = along.none_between
+          ∙ ap (last_place test) kept
+          ∙ last_place-cut test place before past
+          ∙ ap (last_place test) (omega arith);
+      counted = omega (arith, along.counted, one, less);
+      later = omega (arith, along.later);
+    })
+
+-- below the bound the place in hand is the answer
+pub along_found : (numbers : List ℕ) (number before old now place : ℕ)
+    → IsAlong numbers number before old now (Some place) → place < before
+    → Some place ≡ last_place (has_number numbers number) (min before (length numbers))
+along_found numbers number before old now place along below =
+    let cut : place + 1 ≡ min before (place + 1) = omega arith in
+    along.newest ∙ ap (last_place (has_number numbers number)) cut ∙ sym along.none_between
+
+-- at the chain's end there is none
+pub along_end : (numbers : List ℕ) (number before old now : ℕ) → IsAlong numbers number before old now None
+    → None ≡ last_place (has_number numbers number) (min before (length numbers))
+along_end numbers number before old now along =
+    let none : 0 ≡ min before 0 = omega arith in
+    sym (last_place-zero (has_number numbers number))
+    ∙ ap (last_place (has_number numbers number)) none
+    ∙ sym along.none_between
+
+-- what the loop that links a list keeps: the first numbers are copied and chained
+pub record IsBuilt (all : List ℕ) (done : ℕ) (nodes : List Node) (head : ℕ → Option ℕ) : Type 0 where
+  pub copied : numbers_of nodes ≡ take done all
+  pub chained : IsChained (numbers_of nodes) (links_of nodes) head
+
+pub built_none : (all : List ℕ) (nodes : List Node) (head : ℕ → Option ℕ) → nodes ≡ []
+    → ((asked : ℕ) → head asked ≡ None) → IsBuilt all 0 nodes head
+built_none all nodes head none empty = rw none (record { copied = refl; chained = chained_none head empty })
+
+pub built_more : (all : List ℕ) (done : ℕ) (nodes now : List Node) (node : Node) (old new : ℕ → Option ℕ)
+    → length all < 2 ^ 32 → done < length all → IsBuilt all done nodes old
+    → now ≡ nodes ++ node ∷ [] → node.number ≡ get_or all done 0 → node.previous ≡ old (get_or all done 0)
+    → ((asked : ℕ) → new asked ≡ cond (nat_eq (get_or all done 0) asked) (Some done) (old asked))
+    → IsBuilt all (done + 1) now new
+built_more all done nodes now node old new few within built is number previous heads =
+    let long : length (numbers_of nodes) ≡ done = ap length built.copied ∙ length-take-le done all (omega arith) in
+    let numbers : numbers_of now ≡ numbers_of nodes ++ get_or all done 0 ∷ []
+    = ap numbers_of is ∙ map-append (λ n. n.number) nodes (node ∷ []) ∙ ap (λ n. numbers_of nodes ++ n ∷ []) number in
+    let links : links_of now ≡ links_of nodes ++ node.previous ∷ []
+    = ap links_of is ∙ map-append (λ n. n.previous) nodes (node ∷ []) in
+    record {
+      copied = numbers ∙ ap (λ front. front ++ get_or all done 0 ∷ []) built.copied ∙ sym (take_more all done 0 within);
+      chained = rw (numbers, links) (chained_more (numbers_of nodes) (links_of nodes) old new (get_or all done 0) node.previous
+          built.chained (omega arith) previous
+          (λ asked. heads asked ∙ ap (λ k. cond (nat_eq (get_or all done 0) asked) (Some k) (old asked)) (sym long)));
+    }
+
+-- the link that a node holds
+pub link_read : (nodes : List Node) (place : ℕ) (node : Node) (head : ℕ → Option ℕ)
+    → IsChained (numbers_of nodes) (links_of nodes) head → place < length (numbers_of nodes) → node ≡ get_or nodes place node
+    → node.previous ≡ last_place (has_number (numbers_of nodes) (slice_index (numbers_of nodes) place)) place
+link_read nodes place node head chained within is =
+    ap (λ n. n.previous) is
+    ∙ sym (get_or-map (λ n. n.previous) nodes place node None (omega (arith, length-map nodes (λ n. n.number))))
+    ∙ chained.linked place within
+
+pub link_falls : (test : ℕ → Bool) (place : ℕ) (next : Option ℕ) → next ≡ last_place test place → reach next < place + 1
+link_falls test place next is = rw is (omega (arith, reach_within test place))

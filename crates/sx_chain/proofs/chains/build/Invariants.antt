@@ -1,0 +1,7 @@
+use Rattle.std.proofs.Common.{nat_eq}
+use Rattle.indexmap.specs.IndexMap.{get}
+use Rattle.sx_chain.proofs.Linked.{IsBuilt}
+use Rattle.sx_chain.proofs.chains.build.Given as goal
+
+abbrev pub invariant-loop-i : goal.invariant-loop-i
+invariant-loop-i l = IsBuilt l.numbers l.i l.nodes.items (get nat_eq l.heads)
