@@ -1,9 +1,8 @@
 //! The program: the words that it was started with, the files of the disk, and standard output.
 #![tactic(auto)]
 
-use std::env;
-use std::io::{Error, ErrorKind};
 use std::process::ExitCode;
+use std::{env, io};
 use sx_app::{examine, status};
 use sx_edge::{DiskStore, StreamSink};
 
@@ -15,20 +14,27 @@ const NO_WORDS: u8 = 14;
 
 /// Examines what the words after the program's name ask for, and ends with the status of that.
 fn main(rt: HostRuntime) -> ExitCode {
-    let mut words = match env::args(&rt) {
+    let words = match words(&rt) {
         Ok(words) => words,
-        Err(refused) => return ExitCode::from(unread(&refused)),
+        Err(refused) => return ExitCode::from(status_without_words(&refused)),
     };
-    let _program = words.next();
-    let mut store = DiskStore::new(&rt);
-    let mut out = StreamSink::new(rt.stdout());
-    ExitCode::from(status(&examine(rt.alloc(), words.as_slice(), &mut store, &mut out)))
+    let mut store = DiskStore::new(rt);
+    let mut out = StreamSink::new(io::writer(&rt));
+    let outcome = examine(rt.alloc(), &words, &mut store, &mut out);
+    ExitCode::from(status(&outcome))
+}
+
+// The words after the program's name.
+fn words(rt: &HostRuntime) -> io::Result<Vec<String>> {
+    let mut all = env::args(rt)?;
+    let _program = all.next();
+    Ok(all.collect(rt.alloc())?)
 }
 
 // The exit status where the runtime refuses the words.
-fn unread(refused: &Error) -> u8 {
+fn status_without_words(refused: &io::Error) -> u8 {
     match refused.kind() {
-        ErrorKind::OutOfMemory => OUT_OF_MEMORY,
+        io::ErrorKind::OutOfMemory => OUT_OF_MEMORY,
         _ => NO_WORDS,
     }
 }
