@@ -45,3 +45,18 @@ pub fn be64(b: &[u8], at: usize) -> u64
 {
     BigEndian::read_u64(&b[at..])
 }
+
+#[cfg(test)]
+mod tests {
+    use super::*;
+
+    #[test]
+    fn numbers_begin_at_their_place(rt: HostRuntime) {
+        let bytes = [0x00, 0x81, 0x02, 0x03, 0x04, 0x05, 0x06, 0x07, 0x08];
+        assert_eq!(rt; be16(&bytes, 1), 0x8102);
+        assert_eq!(rt; be24(&bytes, 1), 0x81_0203);
+        assert_eq!(rt; be32(&bytes, 1), 0x8102_0304);
+        assert_eq!(rt; be48(&bytes, 1), 0x8102_0304_0506);
+        assert_eq!(rt; be64(&bytes, 1), 0x8102_0304_0506_0708);
+    }
+}

@@ -1,9 +1,9 @@
 -- The header of a database file: which lists of bytes begin with an accepted one, its fields, and the fault of those
 -- that don't ("The Database Header"). Numbers at an offset are big-endian.
-use Rattle.std.specs.Prelude.{ℕ, ◌-◌, not, if◌then◌else◌, ◌==◌, nat_eq, nat_lt, ◌≤◌, IsTrue, List, [], ◌∷◌, ◌++◌, length, codes, Result, Ok, Err}
+use Rattle.std.specs.Prelude.{ℕ, ◌-◌, Bool, not, if◌then◌else◌, ◌==◌, nat_eq, nat_lt, ◌≤◌, List, [], ◌∷◌, ◌++◌, length, codes, Result, Ok, Err}
 use Rattle.std.specs.List.{starts_with}
 use Rattle.sx_base.specs.Bytes.{byte_at, two_bytes_at, word_at}
-use Rattle.sx_bytes.specs.PageSize.{is_page_size}
+use Rattle.sx_bytes.specs.PageSize.{is_page_size, IsPageSize}
 use Rattle.sx_bytes.specs.declared.encoding.Encoding.{Encoding}
 use Rattle.sx_bytes.specs.declared.encoding.Encoding.TheVariants.{Utf8, Utf16Le, Utf16Be}
 use Rattle.sx_header.specs.declared.header.Header.{Header}
@@ -13,6 +13,10 @@ use Rattle.sx_header.specs.declared.header.HeaderFault.TheVariants.{Short, Magic
 -- the first 16 bytes of a database file: a text and a zero byte
 abbrev pub magic : List ℕ
 magic = codes "SQLite format 3" ++ 0 ∷ []
+
+-- the bytes begin like those of a database file
+unfoldable pub has_magic : List ℕ → Bool
+has_magic bytes = starts_with nat_eq bytes magic
 
 -- the page size in bytes: the number at 16 itself, but 65536 where that is 1
 abbrev pub page_size_in : List ℕ → ℕ
@@ -43,7 +47,7 @@ fields_in bytes = record {
 unfoldable pub header_of : List ℕ → Result Header HeaderFault
 header_of bytes =
     if nat_lt (length bytes) 100 then Err Short
-    else (if not (starts_with nat_eq bytes magic) then Err Magic
+    else (if not (has_magic bytes) then Err Magic
     else (if not (is_page_size (page_size_in bytes)) then Err PageSize
     else (if nat_lt (usable_in bytes) 480 then Err Usable
     else (if nat_lt 3 (word_at bytes 56) then Err BadEncoding
@@ -51,7 +55,7 @@ header_of bytes =
 
 -- the ranges of an accepted header's fields
 pub record HasRanges (header : Header) : Type 0 where
-  pub page_size : IsTrue (is_page_size header.page_size)
+  pub page_size : IsPageSize header.page_size
   pub least : 480 ≤ header.usable
   pub within : header.usable ≤ header.page_size
   pub encoding : header.encoding ≤ 3
