@@ -6,4 +6,3 @@ mod request;
 
 pub use reading::read_words;
 pub use request::{Request, Usage};
-
