@@ -15,6 +15,8 @@ pub trait Sink {
     ghost faults: { Self → ℕ };
 
     /// Takes a front of `piece`, and says how many bytes: at least 1 where `piece` isn't empty.
+    ///
+    /// Fails only where the count of faults rose in this call. Then nothing was taken.
     fn write(&mut self, piece: &[u8]) -> Result<usize, Failed>
         ensures bound { WritesAtMost result piece.now }
         ensures progress { 0 < length piece.now → IfOk result (λ n. 0 < n) }

@@ -25,7 +25,10 @@ pub trait Store {
     /// How many bytes were given since the last start, up to 2^64 - 1.
     ghost given: { Self → ℕ };
 
-    /// Starts a file at its first byte, and says whether there is one of that name.
+    /// Starts a file at its first byte, and says whether there is one of that name. Where there is none, or the start
+    /// fails, nothing is left to be read.
+    ///
+    /// Fails only where the count of faults rose in this call.
     fn start(&mut self, name: &str) -> Result<bool, Failed>
         ensures contents { contents self.new ≡ contents self.old }
         ensures left { Starts (contents self.old) name.now (left self.new) result }
@@ -35,6 +38,8 @@ pub trait Store {
 
     /// Moves the first bytes that are left to the front of `buf`, and says how many: 0 only where nothing is left or
     /// `buf` is empty. The rest of `buf` stays as it was.
+    ///
+    /// Fails only where the count of faults rose in this call. Then the bytes left stay, and `buf` may hold anything.
     fn read(&mut self, buf: &mut [u8]) -> Result<usize, Failed>
         ensures contents { contents self.new ≡ contents self.old }
         ensures bound { ReadsAtMost result buf.new }

@@ -26,13 +26,9 @@ fn a_shelf_gives_its_files_whole(rt: HostRuntime) -> Result<(), Fail> {
     for most in [1, 3, 70_000] {
         let mut store = shelf(&rt, alloc, most, &[])?;
         let letters = load(alloc, &mut store, "letters")?.ok_or("none")?;
-        assert_eq!(rt; letters.as_slice(), LETTERS.as_slice(), "{most} at once");
-        let empty = load(alloc, &mut store, "empty")?.ok_or("none")?;
-        assert!(rt; empty.is_empty(), "{most} at once");
-        assert!(rt;
-            load(alloc, &mut store, "letter")?.is_none(),
-            "{most} at once"
-        );
+        assert_eq!(rt; letters.as_slice(), LETTERS.as_slice());
+        assert!(rt; load(alloc, &mut store, "empty")?.ok_or("none")?.is_empty());
+        assert!(rt; load(alloc, &mut store, "letter")?.is_none());
     }
     Ok(())
 }
@@ -42,23 +38,22 @@ fn a_shelf_fails_at_its_trips_alone(rt: HostRuntime) -> Result<(), Fail> {
     let alloc = rt.alloc();
     for (trip, letters, empty, digits) in [
         (Trip::Start(0), false, true, true),
-        (Trip::Read(0, 4), false, true, true),
         (Trip::Read(0, 10), false, true, true),
         (Trip::Read(0, 11), true, true, true),
         (Trip::Read(1, 0), true, false, true),
         (Trip::Start(2), true, true, false),
-        (Trip::Start(3), true, true, true),
     ] {
         let mut store = shelf(&rt, alloc, 3, &[trip])?;
-        for (name, loads) in [("letters", letters), ("empty", empty), ("digits", digits)] {
-            assert_eq!(rt;
-                load(alloc, &mut store, name).is_ok(),
-                loads,
-                "{name}, {trip:?}"
-            );
-        }
+        assert_eq!(rt; load(alloc, &mut store, "letters").is_ok(), letters);
+        assert_eq!(rt; load(alloc, &mut store, "empty").is_ok(), empty);
+        assert_eq!(rt; load(alloc, &mut store, "digits").is_ok(), digits);
     }
-    let mut store = shelf(&rt, alloc, 3, &[Trip::Read(0, 4)])?;
+    Ok(())
+}
+
+#[test]
+fn a_trip_lets_the_bytes_before_it_be_read(rt: HostRuntime) -> Result<(), Fail> {
+    let mut store = shelf(&rt, rt.alloc(), 3, &[Trip::Read(0, 4)])?;
     let mut buf = [0; 8];
     assert_eq!(rt; store.start("letters"), Ok(true));
     assert_eq!(rt; store.read(&mut buf), Ok(3));
