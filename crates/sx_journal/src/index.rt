@@ -1,7 +1,7 @@
 //! What a journal holds, read once.
 ghost use Rattle.std.specs.Prelude.{◌≡◌, ℕ, ◌+◌, ◌^◌, ◌<◌, ◌≤◌, List, All, length, slice_get, IsTrue, IfOk, option_copied};
 ghost use Rattle.std.specs.Option.{ForSome};
-ghost use Rattle.sx_bytes.specs.PageSize.{is_page_size};
+ghost use Rattle.sx_bytes.specs.PageSize.{IsPageSize};
 ghost use Rattle.sx_journal.specs.Header.{is_live};
 ghost use Rattle.sx_journal.specs.Entries.{good_count, unchecked};
 ghost use Rattle.sx_journal.specs.Journal.{headless, live_journal, journal_of};
@@ -47,7 +47,7 @@ pub fn read_journal(
     bytes: Option<&[u8]>,
     page_size: u32,
 ) -> Result<JournalIndex, AllocError>
-    requires page_size { IsTrue (is_page_size page_size) }
+    requires page_size { IsPageSize page_size }
     requires small { ForSome (option_copied bytes) (λ journal. length journal < 2 ^ 32) }
     ensures { IfOk result (λ index. index ≡ journal_of (option_copied bytes.entry) page_size) }
 {
