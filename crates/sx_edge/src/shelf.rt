@@ -13,7 +13,7 @@ use crate::{Store, Trip};
 use std::marker::Model;
 use sx_base::Failed;
 
-/// A store in memory. It fails at the trips that are built into it, and nowhere else.
+/// A store in memory, of files that are numbered from 0. It fails at the trips that are built into it, and nowhere else.
 #[derive(Drop)]
 pub struct Shelf {
     files: Vec<(String, Vec<u8>)>,
@@ -51,7 +51,7 @@ impl Model for Shelf {
     } };
 }
 
-/// Whether no two of the files have the same name.
+/// Whether no two of the files have the same name. It compares each name with those behind it.
 #[tactic(auto, using(crate::proofs::Shelves::names_differ_after), unfolding(crate::specs::Shelf::names_differ))]
 pub fn names_differ(files: &[(String, Vec<u8>)]) -> bool
     ensures { result ≡ names_differ (files_of files.now) }
