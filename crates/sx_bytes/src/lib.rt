@@ -7,4 +7,4 @@ mod page_size;
 
 pub use encoding::Encoding;
 pub use number::{be16, be24, be32, be48, be64};
-pub use page_size::can_be_page_size;
+pub use page_size::{can_be_page_size, page_sizes_are_multiples};

@@ -1,5 +1,5 @@
 //! The sizes that a page can have.
-ghost use Rattle.std.specs.Prelude.{◌≡◌, ◌↔◌, IsTrue};
+ghost use Rattle.std.specs.Prelude.{◌≡◌, ◌↔◌, ℕ, ◌%◌, IsTrue};
 ghost use Rattle.sx_bytes.specs.PageSize.{is_page_size, IsPageSize};
 
 /// Whether `size`, in bytes, is one that a page can have: a power of two from 512 to 65536 ("Page Size").
@@ -10,6 +10,12 @@ pub fn can_be_page_size(size: u32) -> bool
 {
     size.is_power_of_two() && size >= 512 && size <= 65536
 }
+
+/// Every page size is a multiple of the least.
+#[tactic(auto, using(crate::proofs::PageSizeLemmas::size_mod_512))]
+pub fn page_sizes_are_multiples()
+    ensures { (size : ℕ) → IsPageSize size → size % 512 ≡ 0 }
+{}
 
 #[cfg(test)]
 mod tests {

@@ -1,0 +1,5 @@
+pub mod ChecksumLemmas
+pub mod FrameLemmas
+pub mod Ranges
+pub mod RunLemmas
+pub mod WalkLemmas

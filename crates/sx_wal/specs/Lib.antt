@@ -1,0 +1,4 @@
+pub mod Checksum
+pub mod Frames
+pub mod State
+pub mod Wal
