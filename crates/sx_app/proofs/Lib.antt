@@ -1,3 +1,5 @@
 pub mod Writing
 pub mod Numbers
 pub mod Examined
+pub mod Counting
+pub mod Commits

@@ -17,7 +17,7 @@ use Rattle.sx_app.specs.declared.refused.Refused.TheVariants.{Usage, NoDatabase,
 -- the lines that the words ask for, or why there are none: one case a command
 abbrev pub reply : Option Asked → Files → Result (List (List ℕ)) Refused
 reply None files = Err Usage
-reply (Some (Timeline db)) files = evidence_of files db >>= λ opened. Ok (timeline_lines opened)
+reply (Some (Timeline db)) files = evidence_of files db >>= λ evidence. Ok (timeline_lines evidence)
 
 -- the part of the evidence that the words name, the database where they name none
 abbrev pub part_asked : Option Asked → Part

@@ -1,13 +1,17 @@
 -- The evidence that the words name: a database, and the two files that may stand beside it.
-use Rattle.std.specs.Prelude.{◌≡◌, ℕ, ◌<◌, ◌≤◌, Bool, ◌||◌, nat_lt, if◌then◌else◌, List, ◌++◌, length, codes, Option, None, Some, is_some, Result, Ok, Err, IsTrue, IsSome, IfSome, IsErrOf, ⊤}
+use Rattle.std.specs.Prelude.{◌≡◌, ℕ, ◌<◌, ◌≤◌, Bool, nat_lt, if◌then◌else◌, List, ◌++◌, length, codes, Option, None, Some, Result, Ok, Err, IsTrue, IsSome, IfSome, IsErrOf, ⊤}
+use Rattle.std.specs.Option.{option_map}
+use Rattle.std.specs.declared.alloc.Global.{Global}
+use Rattle.std.specs.declared.vec.Vec.{Vec}
 use Rattle.sx_base.specs.Causes.{Rose}
 use Rattle.sx_base.specs.Files.{Files, file_named}
 use Rattle.sx_base.specs.declared.evidence.Part.{Part}
-use Rattle.sx_base.specs.declared.evidence.Part.TheVariants.{Database}
+use Rattle.sx_base.specs.declared.evidence.Part.TheVariants.{Database, Wal}
 use Rattle.sx_edge.specs.declared.whole_file.TheConstants.{GREATEST_FILE}
 use Rattle.sx_header.specs.Header.{header_of}
 use Rattle.sx_header.specs.declared.header.Header.{Header}
 use Rattle.sx_header.specs.declared.header.HeaderFault.{HeaderFault}
+use Rattle.sx_app.specs.declared.database.Database.{Database as LoadedDatabase}
 use Rattle.sx_app.specs.declared.loaded.Loaded.{Loaded}
 use Rattle.sx_app.specs.declared.refused.Refused.{Refused}
 use Rattle.sx_app.specs.declared.refused.Refused.TheVariants.{NoDatabase, BadHeader, TooLarge, ReadFault, Memory, NotBuilt}
@@ -22,6 +26,11 @@ abbrev pub ◌>>=◌ : {A B : Type 0} → Result A Refused → (A → Result B R
 pub record Opened : Type 0 where
   pub header : Header
   pub bytes : List ℕ
+
+-- a database with what lies beside it
+pub record Evidence : Type 0 where
+  pub database : Opened
+  pub wal : Option (List ℕ)
 
 -- a file's bytes, of which there are at most 2 ^ 30
 abbrev pub within_limit : Part → List ℕ → Result (List ℕ) Refused
@@ -48,14 +57,25 @@ wal_name db = db ++ codes "-wal"
 abbrev pub journal_name : List ℕ → List ℕ
 journal_name db = db ++ codes "-journal"
 
--- neither of them is there
-unfoldable pub companions_of : Files → List ℕ → Result (Unit {0}) Refused
+-- the bytes of the write-ahead log, where there is one
+unfoldable pub wal_in : Option (List ℕ) → Result (Option (List ℕ)) Refused
+wal_in None = Ok None
+wal_in (Some bytes) = within_limit Wal bytes >>= λ whole. Ok (Some whole)
+
+-- there is no journal
+unfoldable pub journal_in : Option (List ℕ) → Result (Unit {0}) Refused
+journal_in None = Ok tt
+journal_in (Some bytes) = Err NotBuilt
+
+-- the write-ahead log, where there is one, and no journal
+unfoldable pub companions_of : Files → List ℕ → Result (Option (List ℕ)) Refused
 companions_of files db =
-    if is_some (file_named files (wal_name db)) || is_some (file_named files (journal_name db)) then Err NotBuilt else Ok tt
+    wal_in (file_named files (wal_name db)) >>= λ wal. journal_in (file_named files (journal_name db)) >>= λ _. Ok wal
 
 -- the evidence of a database's name
-unfoldable pub evidence_of : Files → List ℕ → Result Opened Refused
-evidence_of files db = database_of files db >>= λ opened. companions_of files db >>= λ _. Ok opened
+unfoldable pub evidence_of : Files → List ℕ → Result Evidence Refused
+evidence_of files db =
+    database_of files db >>= λ database. companions_of files db >>= λ wal. Ok (record { database = database; wal = wal })
 
 -- a function's answer, seen by view, is what the definition gives, unless the store failed or memory ran out
 abbrev pub Fails : {Y : Type 0} → Refused → Result Y Refused → Type 0
@@ -99,17 +119,24 @@ MayMeet refused = ⊥
 
 -- what a companion can meet
 abbrev pub MayMeetBeside : Refused → Type 0
+MayMeetBeside (TooLarge part) = ⊤
 MayMeetBeside ReadFault = ⊤
 MayMeetBeside Memory = ⊤
 MayMeetBeside NotBuilt = ⊤
 MayMeetBeside refused = ⊥
 
 -- a database as it was loaded, without where it lies in memory
-abbrev pub opened_by : Loaded → Opened
-opened_by loaded = record { header = loaded.header; bytes = loaded.database.items }
+abbrev pub opened_by : LoadedDatabase → Opened
+opened_by database = record { header = database.header; bytes = database.bytes.items }
 
--- what a start can meet: the store failed, or memory ran out
-abbrev pub IsOutside : Refused → Type 0
-IsOutside ReadFault = ⊤
-IsOutside Memory = ⊤
-IsOutside refused = ⊥
+-- the bytes of a file as it was loaded, where there is one
+abbrev pub bytes_by : Option (Vec ℕ Global) → Option (List ℕ)
+bytes_by file = option_map (λ bytes. bytes.items) file
+
+-- the evidence as it was loaded
+abbrev pub evidence_by : Loaded → Evidence
+evidence_by loaded = record { database = opened_by loaded.database; wal = bytes_by loaded.wal }
+
+-- a file that was loaded has at most so many bytes
+abbrev pub IsWithin : Option (Vec ℕ Global) → Type 0
+IsWithin file = IfSome file (λ bytes. length bytes.items ≤ GREATEST_FILE)

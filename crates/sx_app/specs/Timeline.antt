@@ -1,10 +1,18 @@
 -- What `timeline` prints: the database, its write-ahead log, its journal, and a line for each moment.
-use Rattle.std.specs.Prelude.{◌≡◌, ℕ, ◌/◌, ◌==◌, ◌&&◌, not, if◌then◌else◌, List, [], ◌∷◌, ◌++◌, length, drop, codes}
+use Rattle.std.specs.Prelude.{ℕ, ◌+◌, ◌-◌, ◌/◌, ◌==◌, ◌&&◌, not, Bool, true, false, if◌then◌else◌, List, [], ◌∷◌, ◌++◌, map, length, slice_index, slice_index_or, count_by, codes}
 use Rattle.std.specs.Fmt.{decimal}
-use Rattle.sx_app.specs.Evidence.{Opened, opened_by}
+use Rattle.std.specs.List.{range_with_len}
+use Rattle.sx_base.specs.declared.moment.Class.{Class}
+use Rattle.sx_base.specs.declared.moment.Class.TheVariants as classes
+use Rattle.sx_wal.specs.Wal.{Wal, wal_of}
+use Rattle.sx_wal.specs.declared.slot.Slot.{Slot}
+use Rattle.sx_wal.specs.declared.state.WalState.{WalState}
+use Rattle.sx_wal.specs.declared.state.WalState.TheVariants as states
+use Rattle.sx_app.specs.Evidence.{Opened, Evidence, opened_by}
+use Rattle.sx_app.specs.declared.tally.Tally.{Tally}
 use Rattle.sx_app.specs.declared.timeline.TimelineLines.{TimelineLines}
 use Rattle.sx_app.specs.declared.timeline.TimelineLine.{TimelineLine}
-use Rattle.sx_app.specs.declared.timeline.TimelineLine.TheVariants.{Database, Wal, Journal, File, End}
+use Rattle.sx_app.specs.declared.timeline.TimelineLine.TheVariants.{Database, Log, Journal, File, Commits}
 
 -- how many whole pages the database file has
 abbrev pub whole_pages : Opened → ℕ
@@ -27,9 +35,66 @@ database_line opened =
     ++ codes " pages "
     ++ decimal (whole_pages opened)
 
--- the second line, of a write-ahead log that isn't there
-unfoldable pub wal_line : List ℕ
-wal_line = codes "wal absent frames 0 committed 0 pending 0 foreign 0 broken 0"
+-- the name of a write-ahead log's state
+abbrev pub state_name : WalState → List ℕ
+state_name states.Absent = codes "absent"
+state_name states.Short = codes "short"
+state_name states.BadMagic = codes "badmagic"
+state_name states.BadVersion = codes "badversion"
+state_name states.BadPageSize = codes "badpagesize"
+state_name states.OtherPageSize = codes "otherpagesize"
+state_name states.BadHeaderSum = codes "badheadersum"
+state_name states.Good = codes "good"
+
+-- the four classes of a slot
+abbrev pub is_committed : Class → Bool
+is_committed classes.Committed = true
+is_committed _ = false
+
+abbrev pub is_pending : Class → Bool
+is_pending classes.Pending = true
+is_pending _ = false
+
+abbrev pub is_foreign : Class → Bool
+is_foreign classes.Foreign = true
+is_foreign _ = false
+
+abbrev pub is_broken : Class → Bool
+is_broken classes.Broken = true
+is_broken _ = false
+
+-- how many slots have a class
+abbrev pub count_of : (Class → Bool) → List Slot → ℕ
+count_of is_class slots = count_by (λ slot. is_class slot.class) slots
+
+-- how many slots there are of each class
+abbrev pub tally_of : List Slot → Tally
+tally_of slots = record {
+  committed = count_of is_committed slots;
+  pending = count_of is_pending slots;
+  foreign = count_of is_foreign slots;
+  broken = count_of is_broken slots;
+}
+
+-- the line of a write-ahead log: its state, and how many frames it has, in all and of each class
+unfoldable pub log_line : List ℕ → ℕ → Tally → List ℕ
+log_line state frames tally =
+    codes "wal "
+    ++ state
+    ++ codes " frames "
+    ++ decimal frames
+    ++ codes " committed "
+    ++ decimal tally.committed
+    ++ codes " pending "
+    ++ decimal tally.pending
+    ++ codes " foreign "
+    ++ decimal tally.foreign
+    ++ codes " broken "
+    ++ decimal tally.broken
+
+-- the second line
+unfoldable pub wal_line : Wal → List ℕ
+wal_line wal = log_line (state_name wal.state) (length wal.slots) (tally_of wal.slots)
 
 -- the third line, of a journal that isn't there
 unfoldable pub journal_line : List ℕ
@@ -39,18 +104,37 @@ journal_line = codes "journal absent records 0 good 0"
 unfoldable pub file_line : Opened → List ℕ
 file_line opened = codes "0 pages " ++ decimal (file_size opened)
 
--- the lines
-abbrev pub timeline_lines : Opened → List (List ℕ)
-timeline_lines opened = database_line opened ∷ wal_line ∷ journal_line ∷ file_line opened ∷ []
+-- a slot that isn't there
+abbrev pub no_slot : Slot
+no_slot = record { page = 0; commit_size = 0; offset = 0; class = classes.Broken }
 
--- how many lines come before one
-abbrev pub lines_before : TimelineLine → ℕ
-lines_before Database = 0
-lines_before Wal = 1
-lines_before Journal = 2
-lines_before File = 3
-lines_before End = 4
+-- the size in pages after the commit that a slot is
+abbrev pub commit_size_of : Wal → ℕ → ℕ
+commit_size_of wal frame = (slice_index_or wal.slots frame no_slot).commit_size
+
+-- the line of commit k, from 1: its frame, from 0, and the size in pages after it
+unfoldable pub commit_line : Wal → ℕ → List ℕ
+commit_line wal k =
+    let frame = slice_index wal.commits (k - 1) in
+    decimal k ++ codes " frame " ++ decimal frame ++ codes " pages " ++ decimal (commit_size_of wal frame)
+
+-- the lines of the commits after the first of them
+abbrev pub commit_lines_after : ℕ → Wal → List (List ℕ)
+commit_lines_after done wal = map (commit_line wal) (range_with_len (done + 1) (length wal.commits - done))
+
+-- the lines from one on
+abbrev pub lines_from : TimelineLine → Opened → Wal → List (List ℕ)
+lines_from (Commits done) opened wal = commit_lines_after done wal
+lines_from File opened wal = file_line opened ∷ commit_lines_after 0 wal
+lines_from Journal opened wal = journal_line ∷ file_line opened ∷ commit_lines_after 0 wal
+lines_from Log opened wal = wal_line wal ∷ journal_line ∷ file_line opened ∷ commit_lines_after 0 wal
+lines_from Database opened wal = database_line opened ∷ wal_line wal ∷ journal_line ∷ file_line opened ∷ commit_lines_after 0 wal
+
+-- all lines
+abbrev pub timeline_lines : Evidence → List (List ℕ)
+timeline_lines evidence =
+    lines_from Database evidence.database (wal_of evidence.wal evidence.database.header.page_size)
 
 -- the lines to come
 abbrev pub timeline_rest : TimelineLines → List (List ℕ)
-timeline_rest lines = drop (lines_before lines.next) (timeline_lines (opened_by lines.loaded))
+timeline_rest lines = lines_from lines.next (opened_by lines.database) lines.wal

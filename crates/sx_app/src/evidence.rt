@@ -1,9 +1,9 @@
 //! The evidence that the words name, opened and loaded.
-ghost use Rattle.std.specs.Prelude.{◌≡◌, ◌≤◌, ◌++◌, IfOk, IfErr, IfSome, IsErrOf, is_some};
-ghost use Rattle.sx_base.specs.Causes.{Rose};
+ghost use Rattle.std.specs.Prelude.{◌≡◌, IfOk, IfErr, IfSome};
 ghost use Rattle.sx_base.specs.Files.{file_named};
-ghost use Rattle.sx_app.specs.Evidence.{database_in, database_of, companions_of, evidence_of, opened_by, Gives, HasCauses, HasUsed, MayMeet, MayMeetBeside, IsOutside};
+ghost use Rattle.sx_app.specs.Evidence.{database_in, database_of, wal_in, journal_in, wal_name, journal_name, companions_of, evidence_of, opened_by, bytes_by, evidence_by, Gives, HasCauses, HasUsed, IsWithin, MayMeet, MayMeetBeside};
 
+use crate::database::Database;
 use crate::loaded::Loaded;
 use crate::refused::Refused;
 use std::alloc::Global;
@@ -11,34 +11,35 @@ use sx_base::Part;
 use sx_edge::{LoadRefused, Store, load};
 use sx_header::read_header;
 
-/// Opens the evidence of a database's name: the database is read, and the other two files are started.
+/// Opens the evidence of a database's name: the database and its write-ahead log are read, and its journal is started.
 ///
 /// The refusals come in this order: a read fault, no database, a database that is too large; its header; a read fault
-/// at the start of a companion; a companion that is there. Memory may run out at each step.
+/// of the write-ahead log, one that is too large; a read fault at the start of the journal, a journal that is there.
+/// Memory may run out at each step.
 #[tactic(auto, unfolding(crate::specs::Evidence::evidence_of))]
 pub fn open_evidence<S: Store>(alloc: Global, store: &mut S, db: &str) -> Result<Loaded, Refused>
-    ensures told { IfSome (S.contents store.old) (λ files. Gives opened_by result (evidence_of files db.now)) }
+    ensures told { IfSome (S.contents store.old) (λ files. Gives evidence_by result (evidence_of files db.now)) }
     ensures causes { HasCauses (S.faults store.old) (S.faults store.new) (S.absent store.new) (S.given store.new) result }
     ensures may { IfErr result MayMeet }
     ensures used { HasUsed (S.contents store.old) db.now result }
 {
-    let loaded = open_database(alloc, store, db)?;
-    start_companions(alloc, store, db)?;
-    Ok(loaded)
+    let database = open_database(alloc, store, db)?;
+    let wal = load_companions(alloc, store, db)?;
+    Ok(Loaded { database, wal })
 }
 
 // The database, read whole, with its header.
 #[tactic(auto, unfolding(crate::specs::Evidence::database_of))]
-fn open_database<S: Store>(alloc: Global, store: &mut S, db: &str) -> Result<Loaded, Refused>
+fn open_database<S: Store>(alloc: Global, store: &mut S, db: &str) -> Result<Database, Refused>
     ensures contents { S.contents store.new ≡ S.contents store.old }
     ensures told { IfSome (S.contents store.old) (λ files. Gives opened_by result (database_of files db.now)) }
     ensures causes { HasCauses (S.faults store.old) (S.faults store.new) (S.absent store.new) (S.given store.new) result }
     ensures may { IfErr result MayMeet }
     ensures used { HasUsed (S.contents store.old) db.now result }
 {
-    let database = load_database(alloc, store, db)?;
-    match read_header(&database) {
-        Ok(header) => Ok(Loaded { header, database }),
+    let bytes = load_database(alloc, store, db)?;
+    match read_header(&bytes) {
+        Ok(header) => Ok(Database { header, bytes }),
         Err(fault) => Err(Refused::BadHeader(fault)),
     }
 }
@@ -61,39 +62,52 @@ fn load_database<S: Store>(alloc: Global, store: &mut S, db: &str) -> Result<Vec
     }
 }
 
-// Starts the write-ahead log and the journal, of which nothing is read yet.
+// The write-ahead log, where there is one, read whole. The journal is started, and nothing is read of it yet.
 #[tactic(auto, unfolding(crate::specs::Evidence::companions_of))]
-fn start_companions<S: Store>(alloc: Global, store: &mut S, db: &str) -> Result<(), Refused>
-    ensures contents { S.contents store.new ≡ S.contents store.old }
-    ensures told { IfSome (S.contents store.old) (λ files. Gives (λ done. done) result (companions_of files db.now)) }
-    ensures later { S.faults store.old ≤ S.faults store.new }
-    ensures read_fault { IsErrOf result Refused.ReadFault → Rose (S.faults store.old) (S.faults store.new) }
-    ensures may { IfErr result MayMeetBeside }
-{
-    let wal = is_beside(alloc, store, db, "-wal")?;
-    let journal = is_beside(alloc, store, db, "-journal")?;
-    if wal || journal {
-        return Err(Refused::NotBuilt);
-    }
-    Ok(())
-}
-
-// Whether the store has a file of the database's name with this ending.
-fn is_beside<S: Store>(
+fn load_companions<S: Store>(
     alloc: Global,
     store: &mut S,
     db: &str,
-    ending: &str,
-) -> Result<bool, Refused>
-    ensures contents { S.contents store.new ≡ S.contents store.old }
-    ensures told { IfSome (S.contents store.old) (λ files. IfOk result (λ there. there ≡ is_some (file_named files (db.now ++ ending.now)))) }
-    ensures later { S.faults store.old ≤ S.faults store.new }
-    ensures read_fault { IsErrOf result Refused.ReadFault → Rose (S.faults store.old) (S.faults store.new) }
-    ensures may { IfErr result IsOutside }
+) -> Result<Option<Vec<u8>>, Refused>
+    ensures told { IfSome (S.contents store.old) (λ files. Gives bytes_by result (companions_of files db.now)) }
+    ensures within { IfOk result IsWithin }
+    ensures causes { HasCauses (S.faults store.old) (S.faults store.new) (S.absent store.new) (S.given store.new) result }
+    ensures may { IfErr result MayMeetBeside }
 {
-    let name = format!(in alloc; "{db}{ending}")?;
+    let wal = load_wal(alloc, store, db)?;
+    start_journal(alloc, store, db)?;
+    Ok(wal)
+}
+
+// The bytes of the write-ahead log, where there is one.
+#[tactic(auto, unfolding(crate::specs::Evidence::wal_in))]
+fn load_wal<S: Store>(alloc: Global, store: &mut S, db: &str) -> Result<Option<Vec<u8>>, Refused>
+    ensures contents { S.contents store.new ≡ S.contents store.old }
+    ensures told { IfSome (S.contents store.old) (λ files. Gives bytes_by result (wal_in (file_named files (wal_name db.now)))) }
+    ensures within { IfOk result IsWithin }
+    ensures causes { HasCauses (S.faults store.old) (S.faults store.new) (S.absent store.new) (S.given store.new) result }
+    ensures may { IfErr result MayMeetBeside }
+{
+    let name = format!(in alloc; "{db}-wal")?;
+    match load(alloc, store, name.as_str()) {
+        Ok(wal) => Ok(wal),
+        Err(LoadRefused::TooLarge) => Err(Refused::TooLarge(Part::Wal)),
+        Err(LoadRefused::ReadFault) => Err(Refused::ReadFault),
+        Err(LoadRefused::Memory) => Err(Refused::Memory),
+    }
+}
+
+// Starts the journal, and refuses where there is one.
+#[tactic(auto, unfolding(crate::specs::Evidence::journal_in))]
+fn start_journal<S: Store>(alloc: Global, store: &mut S, db: &str) -> Result<(), Refused>
+    ensures told { IfSome (S.contents store.old) (λ files. Gives (λ done. done) result (journal_in (file_named files (journal_name db.now)))) }
+    ensures causes { HasCauses (S.faults store.old) (S.faults store.new) (S.absent store.new) (S.given store.new) result }
+    ensures may { IfErr result MayMeetBeside }
+{
+    let name = format!(in alloc; "{db}-journal")?;
     match store.start(name.as_str()) {
-        Ok(there) => Ok(there),
+        Ok(false) => Ok(()),
+        Ok(true) => Err(Refused::NotBuilt),
         Err(_) => Err(Refused::ReadFault),
     }
 }

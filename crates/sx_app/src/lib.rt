@@ -1,6 +1,7 @@
 //! The examiner's top call: from the words and the files of a store to the text that a sink takes.
 #![tactic(auto)]
 
+mod database;
 mod evidence;
 mod examination;
 mod lines;
@@ -8,6 +9,7 @@ mod loaded;
 mod prepared;
 mod refusals;
 mod refused;
+mod tally;
 mod timeline;
 
 pub use examination::examine;

@@ -1,39 +1,34 @@
-//! A database as it was loaded.
-ghost use Rattle.std.specs.Prelude.{◌<◌};
+//! Evidence as it was loaded.
+ghost use Rattle.std.specs.Prelude.{◌≤◌, length};
+ghost use Rattle.std.specs.Option.{ForSome};
+ghost use Rattle.sx_edge.specs.declared.whole_file.TheConstants.{GREATEST_FILE};
 
-use sx_header::Header;
+use crate::database::Database;
 
-/// A database file that was read whole, and the header that it begins with.
+/// The evidence of a database's name, read whole.
 #[derive(Drop)]
 pub struct Loaded {
-    /// The accepted header.
-    pub header: Header,
-    /// All bytes of the file, at most 1 GiB.
-    pub database: Vec<u8>,
-    ghost has_pages: { 0 < header.page_size },
+    /// The database, with its header.
+    pub database: Database,
+    /// All bytes of its write-ahead log, at most 1 GiB, where there is one.
+    pub wal: Option<Vec<u8>>,
+    ghost small: { ForSome wal (λ bytes. length bytes.items ≤ GREATEST_FILE) },
 }
 
 impl Loaded {
-    ghost use Rattle.std.specs.Prelude.{◌≡◌};
-    ghost use Rattle.sx_app.specs.Evidence.{opened_by};
-    ghost use Rattle.sx_app.specs.Timeline.{whole_pages, file_size};
+    ghost use Rattle.std.specs.Prelude.{◌≡◌, ◌≤◌, length};
+    ghost use Rattle.std.specs.Option.{option_map, ForSome};
+    ghost use Rattle.sx_edge.specs.declared.whole_file.TheConstants.{GREATEST_FILE};
+    ghost use Rattle.sx_app.specs.Evidence.{bytes_by};
 
-    /// How many whole pages the file has.
-    pub fn whole_pages(&self) -> usize
-        ensures { result ≡ whole_pages (opened_by self.now) }
+    /// The bytes of the write-ahead log, where there is one.
+    pub fn wal_bytes(&self) -> Option<&[u8]>
+        ensures bytes { option_map (λ log. log.now) result ≡ bytes_by self.now.wal }
+        ensures small { ForSome result (λ log. length log.now ≤ GREATEST_FILE) }
     {
-        self.database.len() / self.header.page_size as usize
-    }
-
-    /// The size in pages of the database file without its write-ahead log ("In-header Database Size").
-    pub fn file_size(&self) -> usize
-        ensures { result ≡ file_size (opened_by self.now) }
-    {
-        let header = &self.header;
-        if header.pages != 0 && header.change == header.valid_for {
-            header.pages as usize
-        } else {
-            self.whole_pages()
+        match &self.wal {
+            Some(bytes) => Some(bytes.as_slice()),
+            None => None,
         }
     }
 }

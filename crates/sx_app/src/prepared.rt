@@ -7,6 +7,7 @@ ghost use Rattle.sx_app.specs.Answers.{reply, part_asked, IsUnwritten, MayEnd};
 ghost use Rattle.sx_app.specs.Evidence.{Gives, HasCauses};
 ghost use Rattle.sx_app.specs.Texts.{AppendsSome, text_of};
 ghost use Rattle.sx_app.specs.Prepared.{prepared_lines};
+ghost use Rattle.sx_app.specs.Timeline.{timeline_rest};
 
 use crate::evidence::open_evidence;
 use crate::lines::write_lines;
@@ -45,7 +46,7 @@ pub fn prepare<S: Store>(
     match request {
         Request::Timeline { db } => {
             let loaded = open_evidence(alloc, store, db)?;
-            Ok(Prepared::Timeline(TimelineLines::new(loaded)))
+            Ok(Prepared::Timeline(TimelineLines::new(alloc, loaded)?))
         }
     }
 }
@@ -57,7 +58,15 @@ pub fn write<W: Sink>(alloc: Global, prepared: Prepared, out: &mut W) -> Result<
     ensures may { IfErr result IsUnwritten }
     ensures cause { IsErrOf result Refused.WriteFault → Rose (W.faults out.old) (W.faults out.new) }
 {
+    let mut lines = timeline_in(prepared);
+    write_lines(alloc, &mut lines, out)
+}
+
+// The lines of `timeline`.
+fn timeline_in(prepared: Prepared) -> TimelineLines
+    ensures { timeline_rest result ≡ prepared_lines prepared }
+{
     match prepared {
-        Prepared::Timeline(mut lines) => write_lines(alloc, &mut lines, out),
+        Prepared::Timeline(lines) => lines,
     }
 }

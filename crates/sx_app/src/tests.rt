@@ -7,6 +7,7 @@ use sx_edge::{Shelf, Tray, Trip, names_differ};
 
 mod cases;
 mod endless;
+mod logs;
 
 // The text of `timeline` over the plain database.
 const PLAIN: &str =

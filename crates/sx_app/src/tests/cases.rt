@@ -85,7 +85,7 @@ fn words_and_files_decide(rt: HostRuntime) -> Result<(), Fail> {
         (&[], &["a.db", "timeline"], 2, "refused: no database\n"),
         (&[("a\n", bytes.as_slice())], &["a\n", "timeline"], 0, PLAIN),
         (
-            &[plain, ("a.db-wal", &[])],
+            &[plain, ("a.db-journal", &[]), ("a.db-wal", &[])],
             &["a.db", "timeline"],
             13,
             "refused: not built yet\n",
@@ -142,10 +142,11 @@ fn a_failing_store_is_a_read_fault_and_prints_nothing(rt: HostRuntime) -> Result
     let bytes = plain_database(alloc)?;
     let other = changed(alloc, &[(0, 0)])?;
     let wal = [Trip::Start(1)];
-    let cases: [(&[u8], &[Trip], u8, &str); 4] = [
+    let cases: [(&[u8], &[Trip], u8, &str); 5] = [
         (bytes.as_slice(), &[Trip::Start(0)], 9, ""),
         (bytes.as_slice(), &[Trip::Read(0, 1024)], 9, ""),
         (bytes.as_slice(), &wal, 9, ""),
+        (bytes.as_slice(), &[Trip::Read(1, 0)], 9, ""),
         (other.as_slice(), &wal, 3, "refused: header magic\n"),
     ];
     for (database, trips, end, text) in cases {

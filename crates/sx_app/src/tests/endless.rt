@@ -1,13 +1,15 @@
-//! A store without an end.
+//! A store with a file without an end.
 ghost use Rattle.std.specs.Prelude.{None, false};
 
 use super::*;
 use sx_base::Failed;
 use sx_edge::Store;
 
-// A store that tells nothing of its files, and gives zeros for ever.
+// A store that tells nothing of its files. One of them is the plain database or ends never, the other ends never.
 #[derive(Drop)]
 struct Endless {
+    database: Vec<u8>,
+    at: usize,
     given: u64,
 }
 
@@ -22,29 +24,49 @@ impl Store for Endless {
 
     ghost given = { λ store. store.given };
 
-    fn start(&mut self, _name: &str) -> Result<bool, Failed> {
+    fn start(&mut self, name: &str) -> Result<bool, Failed> {
+        if name != "a.db" {
+            self.at = usize::MAX;
+        }
         self.given = 0;
         Ok(true)
     }
 
     fn read(&mut self, buf: &mut [u8]) -> Result<usize, Failed> {
-        buf.fill(0);
-        self.given = self.given.saturating_add(buf.len() as u64);
-        Ok(buf.len())
+        let _given = self.given;
+        let Some(left) = self.database.get(self.at..) else {
+            buf.fill(0);
+            self.given = self.given.saturating_add(buf.len() as u64);
+            return Ok(buf.len());
+        };
+        let n = left.len().min(buf.len());
+        buf[..n].copy_from_slice(&left[..n]);
+        self.at += n;
+        self.given = self.given.saturating_add(n as u64);
+        Ok(n)
     }
 }
 
 #[test]
-fn a_database_without_an_end_is_too_large(rt: HostRuntime) -> Result<(), Fail> {
+fn a_file_without_an_end_is_too_large(rt: HostRuntime) -> Result<(), Fail> {
     let alloc = rt.alloc();
-    let mut store = Endless { given: 0 };
-    let mut out = Tray::new(alloc, 4_096, 4_096)?;
-    let words = owned(alloc, &["plain.db", "timeline"])?;
-    let outcome = examine(alloc, words.as_slice(), &mut store, &mut out);
-    assert_eq!(rt; status(&outcome), 4);
-    assert_eq!(rt;
-        out.taken(),
-        b"refused: database is larger than 1073741824 bytes\n".as_slice()
-    );
+    for (name, text) in [
+        (
+            "b.db",
+            "refused: database is larger than 1073741824 bytes\n",
+        ),
+        ("a.db", "refused: wal is larger than 1073741824 bytes\n"),
+    ] {
+        let mut store = Endless {
+            database: plain_database(alloc)?,
+            at: 0,
+            given: 0,
+        };
+        let mut out = Tray::new(alloc, 4_096, 4_096)?;
+        let words = owned(alloc, &[name, "timeline"])?;
+        let outcome = examine(alloc, words.as_slice(), &mut store, &mut out);
+        assert_eq!(rt; status(&outcome), 4);
+        assert_eq!(rt; out.taken(), text.as_bytes());
+    }
     Ok(())
 }

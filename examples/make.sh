@@ -1,0 +1,65 @@
+#!/bin/sh
+# Makes the two small cases of this folder anew, with the stock command line of SQLite (3.40 or later):
+#
+#     sh make.sh FOLDER
+#
+# Each session leaves its write-ahead log beside the database, as a program does that was cut off: the log isn't
+# checkpointed when the session ends. The salts of a log are drawn at random, so no two runs give the same bytes.
+set -eu
+
+folder=${1:?usage: sh make.sh FOLDER}
+if ! command -v sqlite3 >/dev/null; then
+    echo "make.sh: the command sqlite3 isn't here; on Debian: apt-get install sqlite3" >&2
+    exit 1
+fi
+mkdir -p "$folder"
+rm -f "$folder"/chat.db* "$folder"/restarted.db*
+
+# A session on a database. Its answers, such as the journal's mode, aren't of interest.
+session() {
+    sqlite3 -bail "$folder/$1" >/dev/null
+    rm -f "$folder/$1-shm"
+}
+
+begin() {
+    session "$1" <<'SQL'
+PRAGMA page_size = 1024;
+CREATE TABLE person(id INTEGER PRIMARY KEY, name TEXT);
+CREATE TABLE message(id INTEGER PRIMARY KEY, sender INTEGER, sent TEXT, body TEXT);
+INSERT INTO person VALUES (1, 'Ada'), (2, 'Ben'), (3, 'Cleo');
+INSERT INTO message VALUES (1, 1, '2026-11-02 08:15', 'Is the parcel in?');
+INSERT INTO message VALUES (2, 2, '2026-11-02 08:17', 'Not yet. I will write when it is.');
+PRAGMA journal_mode = WAL;
+SQL
+}
+
+# A chat of which messages were edited and deleted, with six commits that are not yet in the database file.
+begin chat.db
+session chat.db <<'SQL'
+.dbconfig no_ckpt_on_close on
+PRAGMA wal_autocheckpoint = 0;
+INSERT INTO message VALUES (3, 2, '2026-11-02 11:40', 'It is here. Locker 17, code 4402.');
+INSERT INTO message VALUES (4, 1, '2026-11-02 11:41', 'On my way.');
+UPDATE message SET body = 'It is here. Ask at the desk.' WHERE id = 3;
+DELETE FROM message WHERE id = 4;
+BEGIN;
+INSERT INTO person VALUES (4, 'Dana');
+INSERT INTO message VALUES (5, 4, '2026-11-02 19:05', 'Who has the key?');
+COMMIT;
+DELETE FROM message WHERE sender = 2;
+SQL
+
+# The same chat, whose log was checkpointed and begun again: behind the frames of its two new commits stand frames of
+# the older run.
+begin restarted.db
+session restarted.db <<'SQL'
+.dbconfig no_ckpt_on_close on
+PRAGMA wal_autocheckpoint = 0;
+INSERT INTO message VALUES (3, 2, '2026-11-02 11:40', 'It is here. Locker 17, code 4402.');
+INSERT INTO message VALUES (4, 1, '2026-11-02 11:41', 'On my way.');
+UPDATE message SET body = 'It is here. Ask at the desk.' WHERE id = 3;
+DELETE FROM message WHERE id = 4;
+PRAGMA wal_checkpoint(RESTART);
+INSERT INTO message VALUES (5, 3, '2026-11-03 07:30', 'Parcel collected.');
+DELETE FROM message WHERE id = 1;
+SQL
