@@ -33,15 +33,22 @@ PRAGMA journal_mode = WAL;
 SQL
 }
 
-# A chat of which messages were edited and deleted, with six commits that are not yet in the database file.
-begin chat.db
-session chat.db <<'SQL'
+# What both chats go through first, each change a commit of its own, with a log that is left as it is.
+four_changes() {
+    cat <<'SQL'
 .dbconfig no_ckpt_on_close on
 PRAGMA wal_autocheckpoint = 0;
 INSERT INTO message VALUES (3, 2, '2026-11-02 11:40', 'It is here. Locker 17, code 4402.');
 INSERT INTO message VALUES (4, 1, '2026-11-02 11:41', 'On my way.');
 UPDATE message SET body = 'It is here. Ask at the desk.' WHERE id = 3;
 DELETE FROM message WHERE id = 4;
+SQL
+}
+
+# A chat of which messages were edited and deleted, with six commits that are not yet in the database file.
+begin chat.db
+session chat.db <<SQL
+$(four_changes)
 BEGIN;
 INSERT INTO person VALUES (4, 'Dana');
 INSERT INTO message VALUES (5, 4, '2026-11-02 19:05', 'Who has the key?');
@@ -52,13 +59,8 @@ SQL
 # The same chat, whose log was checkpointed and begun again: behind the frames of its two new commits stand frames of
 # the older run.
 begin restarted.db
-session restarted.db <<'SQL'
-.dbconfig no_ckpt_on_close on
-PRAGMA wal_autocheckpoint = 0;
-INSERT INTO message VALUES (3, 2, '2026-11-02 11:40', 'It is here. Locker 17, code 4402.');
-INSERT INTO message VALUES (4, 1, '2026-11-02 11:41', 'On my way.');
-UPDATE message SET body = 'It is here. Ask at the desk.' WHERE id = 3;
-DELETE FROM message WHERE id = 4;
+session restarted.db <<SQL
+$(four_changes)
 PRAGMA wal_checkpoint(RESTART);
 INSERT INTO message VALUES (5, 3, '2026-11-03 07:30', 'Parcel collected.');
 DELETE FROM message WHERE id = 1;

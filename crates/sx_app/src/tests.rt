@@ -13,6 +13,10 @@ mod logs;
 const PLAIN: &str =
     "database pagesize 512 usable 512 pages 2\nwal absent frames 0 committed 0 pending 0 foreign 0 broken 0\njournal absent records 0 good 0\n0 pages 2\n";
 
+// The text of `timeline` over the empty database.
+const EMPTY: &str =
+    "database pagesize 512 usable 512 pages 1\nwal absent frames 0 committed 0 pending 0 foreign 0 broken 0\njournal absent records 0 good 0\n0 pages 1\n";
+
 // Zeros up to a place, and then these bytes.
 fn put(bytes: &mut Vec<u8>, at: usize, piece: &[u8]) -> Result<(), Fail> {
     for _ in bytes.len()..at {
@@ -47,6 +51,18 @@ fn plain_database(alloc: Global) -> Result<Vec<u8>, Fail> {
     put(&mut bytes, 996, &[6, 3, 4, 0, 17, 0, 99, 121])?;
     put(&mut bytes, 1004, &[8, 2, 4, 0, 19, 1, 98, 111, 98, 20])?;
     put(&mut bytes, 1014, &[8, 1, 4, 0, 19, 1, 97, 110, 110, 10])?;
+    Ok(bytes)
+}
+
+// A database of one page of 512 bytes without a table, as SQLite first writes it.
+fn empty_database(alloc: Global) -> Result<Vec<u8>, Fail> {
+    let mut bytes = Vec::new(alloc);
+    put(&mut bytes, 0, b"SQLite format 3\0")?;
+    put(&mut bytes, 16, &[2, 0, 1, 1, 0, 64, 32, 32])?;
+    put(&mut bytes, 27, &[1, 0, 0, 0, 1])?;
+    put(&mut bytes, 95, &[1])?;
+    put(&mut bytes, 100, &[13, 0, 0, 0, 0, 2, 0, 0])?;
+    put(&mut bytes, 512, &[])?;
     Ok(bytes)
 }
 

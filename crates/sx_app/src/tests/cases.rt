@@ -68,6 +68,17 @@ fn the_size_is_the_headers_where_its_counters_agree(rt: HostRuntime) -> Result<(
 }
 
 #[test]
+fn a_database_without_a_table_has_one_page(rt: HostRuntime) -> Result<(), Fail> {
+    let alloc = rt.alloc();
+    let bytes = empty_database(alloc)?;
+    let named: [(&str, &[u8]); 1] = [("e.db", bytes.as_slice())];
+    let (ended, out) = examined(&rt, alloc, &named, &[], AMPLE, &["e.db", "timeline"])?;
+    assert_eq!(rt; ended, 0);
+    assert_eq!(rt; out.taken(), EMPTY.as_bytes());
+    Ok(())
+}
+
+#[test]
 fn words_and_files_decide(rt: HostRuntime) -> Result<(), Fail> {
     let alloc = rt.alloc();
     let bytes = plain_database(alloc)?;
