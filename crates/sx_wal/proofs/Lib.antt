@@ -1,5 +1,6 @@
 pub mod ChecksumLemmas
 pub mod FrameLemmas
 pub mod Ranges
+pub mod LogLemmas
 pub mod RunLemmas
 pub mod WalkLemmas

@@ -1,6 +1,6 @@
 -- A write-ahead log as a whole: its state, its slots in file order, and the slots of its commits ("WAL File Format",
 -- "Reader Algorithm").
-use Rattle.std.specs.Prelude.{ℕ, ◌+◌, ◌<◌, ◌≤◌, ◌^◌, Bool, not, ◌&&◌, if◌then◌else◌, ◌==◌, nat_le, List, [], length, map, slice_index, Option, Some, None}
+use Rattle.std.specs.Prelude.{◌≡◌, ℕ, ◌+◌, ◌<◌, ◌≤◌, ◌^◌, Bool, not, ◌&&◌, if◌then◌else◌, ◌==◌, nat_le, List, [], length, map, slice_index, Option, Some, None}
 use Rattle.std.specs.List.{filter, list_any, range_with_len}
 use Rattle.sx_base.specs.Bytes.{word_at}
 use Rattle.sx_base.specs.declared.moment.Class.{Class}
@@ -89,3 +89,10 @@ pub record IsIndex (wal : Wal) : Type 0 where
   pub few : length wal.slots < 2 ^ 32
   pub fewer : length wal.commits ≤ length wal.slots
   pub within : (k : ℕ) → k < length wal.commits → slice_index wal.commits k < length wal.slots
+
+-- a slot is that of frame i, and its page is whole in the log
+pub record IsFrame (page_size : ℕ) (bytes : List ℕ) (i : ℕ) (slot : Slot) : Type 0 where
+  pub page : slot.page ≡ word_at bytes (frame_at page_size i)
+  pub commit_size : slot.commit_size ≡ commit_size_at page_size bytes i
+  pub offset : slot.offset ≡ frame_at page_size i + 24
+  pub whole : slot.offset + page_size ≤ length bytes
