@@ -2,7 +2,7 @@
 ghost use Rattle.std.specs.Prelude.{◌≡◌, ◌+◌, ◌≤◌, ◌<◌, ◌^◌, length};
 ghost use Rattle.sx_bytes.specs.PageSize.{IsPageSize};
 ghost use Rattle.sx_wal.specs.Checksum.{sums_of};
-ghost use Rattle.sx_wal.specs.State.{is_big, two_words_at};
+ghost use Rattle.sx_wal.specs.State.{is_big, two_words_at, are_same};
 ghost use Rattle.sx_wal.specs.Frames.{frame_len, frame_at, whole_frames, covered, has_salts, agrees, run_of, is_valid};
 ghost use Rattle.sx_wal.specs.Wal.{is_commit, class_past, slot_past};
 
@@ -92,11 +92,17 @@ impl<'a> Log<'a> {
         requires { i < whole_frames self.now.page_size self.now.bytes.now }
         ensures { result ≡ agrees self.now.page_size self.now.bytes.now i through }
     {
+        be32(self.bytes, self.frame_at(i)) != 0 && self.has_salts(i) && self.stores(i, through)
+    }
+
+    /// Whether frame `i` stores these sums.
+    fn stores(&self, i: usize, through: (u32, u32)) -> bool
+        requires { i < whole_frames self.now.page_size self.now.bytes.now }
+        ensures { result ≡ are_same
+            (two_words_at self.now.bytes.now (frame_at self.now.page_size i + 16)) through }
+    {
         let at = self.frame_at(i);
-        be32(self.bytes, at) != 0
-            && self.has_salts(i)
-            && be32(self.bytes, at + 16) == through.0
-            && be32(self.bytes, at + 20) == through.1
+        be32(self.bytes, at + 16) == through.0 && be32(self.bytes, at + 20) == through.1
     }
 
     #[tactic(auto, using(crate::proofs::RunLemmas::run_none))]
