@@ -169,6 +169,29 @@ const NO_COMMIT: Log = Log {
     commits: &[],
 };
 
+/// A commit, and a frame of other salts behind it.
+const FOLLOWED: Log = Log {
+    magic: BIG,
+    page_size: 512,
+    salts: (1, 2),
+    sums: (0x1604_cad8, 0xbcdd_a493),
+    frames: &[
+        Frame {
+            words: [2, 2, 1, 2, 0x9bb5_ab40, 0xcc3d_fa49],
+            page: REPLACED,
+            offset: 56,
+            class: Class::Committed,
+        },
+        Frame {
+            words: [2, 2, 7, 8, 0x72b5_5772, 0xbb8c_7c99],
+            page: DELETED,
+            offset: 592,
+            class: Class::Foreign,
+        },
+    ],
+    commits: &[0],
+};
+
 /// A log that was begun anew over an older one of three commits.
 const RESTARTED: Log = Log {
     magic: BIG,
@@ -302,6 +325,7 @@ fn each_log_is_read_as_it_was_written(rt: HostRuntime) -> Result<(), Fail> {
         TWO_COMMITS_LITTLE,
         UNFINISHED,
         NO_COMMIT,
+        FOLLOWED,
         RESTARTED,
         NO_PAGE_NUMBER,
         GREATEST_PAGE,
