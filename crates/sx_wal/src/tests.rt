@@ -18,14 +18,14 @@ struct Page {
     back: &'static [u8],
 }
 
-/// A leaf page of which row 2 was deleted.
+/// A leaf page of a table, whose second record was deleted.
 const DELETED: Page = Page {
     front: b"\x0d\x01\xec\x00\x02\x01\xe4\x00\x01\xf6\x01\xe4\x01\xe4",
     zeros: 470,
     back: b"\x06\x03\x04\x00\x11\x00cy\x00\x00\x00\x0a\x13\x01bob\x14\x08\x01\x04\x00\x13\x01ann\x0a",
 };
 
-/// The same page with row 4 in its place.
+/// The same page with a new record in its place.
 const REPLACED: Page = Page {
     front: b"\x0d\x00\x00\x00\x03\x01\xe4\x00\x01\xf6\x01\xe4\x01\xec",
     zeros: 470,
