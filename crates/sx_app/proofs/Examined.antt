@@ -11,7 +11,7 @@ use Rattle.sx_app.specs.Answers.{reply, part_asked, Answer, answered, answer, st
 use Rattle.sx_app.specs.Evidence.{Fails, HasCauses}
 use Rattle.sx_app.specs.Texts.{text_of, AppendsSome}
 use Rattle.sx_app.specs.declared.refused.Refused.{Refused}
-use Rattle.sx_app.specs.declared.refused.Refused.TheVariants.{Usage, NoDatabase, BadHeader, TooLarge, NoMoment, Unreadable, NoTable, NoByte, ReadFault, WriteFault, Memory, NoTree, NotBuilt}
+use Rattle.sx_app.specs.declared.refused.Refused.TheVariants.{Usage, NoDatabase, BadHeader, TooLarge, NoMoment, Unreadable, NoTable, NoByte, ReadFault, WriteFault, Memory, NoTree}
 
 -- ---- which refusals words may meet
 

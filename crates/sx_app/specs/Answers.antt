@@ -12,7 +12,7 @@ use Rattle.sx_app.specs.Refusals.{refusal_text}
 use Rattle.sx_app.specs.Texts.{text_of, AppendsSome}
 use Rattle.sx_app.specs.Timeline.{timeline_lines}
 use Rattle.sx_app.specs.declared.refused.Refused.{Refused}
-use Rattle.sx_app.specs.declared.refused.Refused.TheVariants.{Usage, NoDatabase, BadHeader, TooLarge, NoMoment, Unreadable, NoTable, NoByte, ReadFault, WriteFault, Memory, NoTree, NotBuilt}
+use Rattle.sx_app.specs.declared.refused.Refused.TheVariants.{Usage, NoDatabase, BadHeader, TooLarge, NoMoment, Unreadable, NoTable, NoByte, ReadFault, WriteFault, Memory, NoTree}
 
 -- the lines that the words ask for, or why there are none: one case a command
 abbrev pub reply : Option Asked → Files → Result (List (List ℕ)) Refused
@@ -66,7 +66,6 @@ MayMeetTimeline db contents (TooLarge part) = ⊤
 MayMeetTimeline db contents ReadFault = ⊤
 MayMeetTimeline db contents WriteFault = ⊤
 MayMeetTimeline db contents Memory = Has contents db
-MayMeetTimeline db contents NotBuilt = ⊤
 MayMeetTimeline db contents refused = ⊥
 
 -- which refusals words outside the grammar may meet

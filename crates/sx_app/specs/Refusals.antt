@@ -8,7 +8,7 @@ use Rattle.sx_base.specs.declared.moment.Moment.TheVariants as moments
 use Rattle.sx_header.specs.declared.header.HeaderFault.{HeaderFault}
 use Rattle.sx_header.specs.declared.header.HeaderFault.TheVariants as faults
 use Rattle.sx_app.specs.declared.refused.Refused.{Refused}
-use Rattle.sx_app.specs.declared.refused.Refused.TheVariants.{Usage, NoDatabase, BadHeader, TooLarge, NoMoment, Unreadable, NoTable, NoByte, ReadFault, WriteFault, Memory, NoTree, NotBuilt}
+use Rattle.sx_app.specs.declared.refused.Refused.TheVariants.{Usage, NoDatabase, BadHeader, TooLarge, NoMoment, Unreadable, NoTable, NoByte, ReadFault, WriteFault, Memory, NoTree}
 use Rattle.sx_app.specs.Texts.{text_of}
 
 -- a part's name
@@ -53,7 +53,6 @@ refusal_lines part (Unreadable moment) = refusal (codes "page 1 is unreadable at
 refusal_lines part NoTable = refusal (codes "no such table")
 refusal_lines part NoTree = refusal (codes "table has no tree")
 refusal_lines part (NoByte length) = refusal (part_name part ++ codes " has " ++ decimal length ++ codes " bytes")
-refusal_lines part NotBuilt = refusal (codes "not built yet")
 refusal_lines part ReadFault = []
 refusal_lines part WriteFault = []
 refusal_lines part Memory = []
@@ -77,4 +76,3 @@ status_of (Err ReadFault) = 9
 status_of (Err WriteFault) = 10
 status_of (Err Memory) = 11
 status_of (Err NoTree) = 12
-status_of (Err NotBuilt) = 13

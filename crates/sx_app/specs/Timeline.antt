@@ -4,6 +4,10 @@ use Rattle.std.specs.Fmt.{decimal}
 use Rattle.std.specs.List.{range_with_len}
 use Rattle.sx_base.specs.declared.moment.Class.{Class}
 use Rattle.sx_base.specs.declared.moment.Class.TheVariants as classes
+use Rattle.sx_journal.specs.Entries.{good_count}
+use Rattle.sx_journal.specs.Journal.{Journal, journal_of}
+use Rattle.sx_journal.specs.declared.state.JournalState.{JournalState}
+use Rattle.sx_journal.specs.declared.state.JournalState.TheVariants as journal_states
 use Rattle.sx_wal.specs.Wal.{Wal, wal_of}
 use Rattle.sx_wal.specs.declared.slot.Slot.{Slot}
 use Rattle.sx_wal.specs.declared.state.WalState.{WalState}
@@ -12,7 +16,7 @@ use Rattle.sx_app.specs.Evidence.{Opened, Evidence, opened_by}
 use Rattle.sx_app.specs.declared.tally.Tally.{Tally}
 use Rattle.sx_app.specs.declared.timeline.TimelineLines.{TimelineLines}
 use Rattle.sx_app.specs.declared.timeline.TimelineLine.{TimelineLine}
-use Rattle.sx_app.specs.declared.timeline.TimelineLine.TheVariants.{Database, Log, Journal, File, Commits}
+use Rattle.sx_app.specs.declared.timeline.TimelineLine.TheVariants as lines
 
 -- how many whole pages the database file has
 abbrev pub whole_pages : Opened → ℕ
@@ -96,9 +100,23 @@ log_line state frames tally =
 unfoldable pub wal_line : Wal → List ℕ
 wal_line wal = log_line (state_name wal.state) (length wal.slots) (tally_of wal.slots)
 
--- the third line, of a journal that isn't there
-unfoldable pub journal_line : List ℕ
-journal_line = codes "journal absent records 0 good 0"
+-- the name of a journal's state
+abbrev pub journal_state_name : JournalState → List ℕ
+journal_state_name journal_states.Absent = codes "absent"
+journal_state_name journal_states.Short = codes "short"
+journal_state_name journal_states.Live = codes "live"
+journal_state_name journal_states.Zeroed = codes "zeroed"
+journal_state_name journal_states.Alien = codes "alien"
+
+-- the third line: the state of the journal, and how many records it has, in all and good ones
+unfoldable pub journal_line : Journal → List ℕ
+journal_line journal =
+    codes "journal "
+    ++ journal_state_name journal.state
+    ++ codes " records "
+    ++ decimal (length journal.entries)
+    ++ codes " good "
+    ++ decimal (good_count journal.entries)
 
 -- the line of the database file without its write-ahead log: its size in pages
 unfoldable pub file_line : Opened → List ℕ
@@ -123,18 +141,21 @@ abbrev pub commit_lines_after : ℕ → Wal → List (List ℕ)
 commit_lines_after done wal = map (commit_line wal) (range_with_len (done + 1) (length wal.commits - done))
 
 -- the lines from one on
-abbrev pub lines_from : TimelineLine → Opened → Wal → List (List ℕ)
-lines_from (Commits done) opened wal = commit_lines_after done wal
-lines_from File opened wal = file_line opened ∷ commit_lines_after 0 wal
-lines_from Journal opened wal = journal_line ∷ file_line opened ∷ commit_lines_after 0 wal
-lines_from Log opened wal = wal_line wal ∷ journal_line ∷ file_line opened ∷ commit_lines_after 0 wal
-lines_from Database opened wal = database_line opened ∷ wal_line wal ∷ journal_line ∷ file_line opened ∷ commit_lines_after 0 wal
+abbrev pub lines_from : TimelineLine → Opened → Wal → Journal → List (List ℕ)
+lines_from (lines.Commits done) opened wal journal = commit_lines_after done wal
+lines_from lines.File opened wal journal = file_line opened ∷ commit_lines_after 0 wal
+lines_from lines.Journal opened wal journal = journal_line journal ∷ file_line opened ∷ commit_lines_after 0 wal
+lines_from lines.Log opened wal journal =
+    wal_line wal ∷ journal_line journal ∷ file_line opened ∷ commit_lines_after 0 wal
+lines_from lines.Database opened wal journal =
+    database_line opened ∷ wal_line wal ∷ journal_line journal ∷ file_line opened ∷ commit_lines_after 0 wal
 
 -- all lines
 abbrev pub timeline_lines : Evidence → List (List ℕ)
 timeline_lines evidence =
-    lines_from Database evidence.database (wal_of evidence.wal evidence.database.header.page_size)
+    let page_size = evidence.database.header.page_size in
+    lines_from lines.Database evidence.database (wal_of evidence.wal page_size) (journal_of evidence.journal page_size)
 
 -- the lines to come
 abbrev pub timeline_rest : TimelineLines → List (List ℕ)
-timeline_rest lines = lines_from lines.next (opened_by lines.database) lines.wal
+timeline_rest rest = lines_from rest.next (opened_by rest.database) rest.wal rest.journal

@@ -7,6 +7,7 @@ use sx_edge::{Shelf, Tray, Trip, names_differ};
 
 mod cases;
 mod endless;
+mod journals;
 mod logs;
 
 // The text of `timeline` over the plain database.
@@ -75,6 +76,23 @@ fn changed(alloc: Global, changes: &[(usize, u8)]) -> Result<Vec<u8>, Fail> {
         }
     }
     Ok(bytes)
+}
+
+// The plain database after its second row was deleted: the row's cell is a freeblock.
+fn second_row_deleted(alloc: Global) -> Result<Vec<u8>, Fail> {
+    changed(
+        alloc,
+        &[
+            (513, 1),
+            (514, 236),
+            (516, 2),
+            (523, 228),
+            (1004, 0),
+            (1005, 0),
+            (1006, 0),
+            (1007, 10),
+        ],
+    )
 }
 
 fn owned(alloc: Global, words: &[&str]) -> Result<Vec<String>, Fail> {

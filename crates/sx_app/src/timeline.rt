@@ -2,13 +2,14 @@
 ghost use Rattle.std.specs.Prelude.{◌≡◌, ◌<◌, ◌≤◌, ◌+◌, length, OnOk, string_bytes};
 ghost use Rattle.sx_app.specs.Evidence.{opened_by};
 ghost use Rattle.sx_app.specs.Texts.{ended};
-ghost use Rattle.sx_app.specs.Timeline.{database_line, log_line, wal_line, journal_line, file_line, commit_line, commit_size_of, state_name};
+ghost use Rattle.sx_app.specs.Timeline.{database_line, log_line, wal_line, journal_line, file_line, commit_line, commit_size_of, state_name, journal_state_name};
 
 use crate::database::Database;
 use crate::lines::Lines;
 use crate::loaded::Loaded;
 use crate::tally::{Tally, count_classes};
 use std::alloc::{AllocError, Global};
+use sx_journal::{JournalIndex, JournalState, read_journal};
 use sx_wal::{WalIndex, WalState, read_wal};
 
 /// The lines of `timeline` that are still to come.
@@ -16,6 +17,7 @@ use sx_wal::{WalIndex, WalState, read_wal};
 pub struct TimelineLines {
     database: Database,
     wal: WalIndex,
+    journal: JournalIndex,
     next: TimelineLine,
 }
 
@@ -24,15 +26,17 @@ impl TimelineLines {
     ghost use Rattle.sx_app.specs.Evidence.{evidence_by};
     ghost use Rattle.sx_app.specs.Timeline.{timeline_lines, timeline_rest};
 
-    /// All lines over this evidence. The write-ahead log is read once, here.
+    /// All lines over this evidence. The write-ahead log and the journal are read once, here.
     pub fn new(alloc: Global, loaded: Loaded) -> Result<Self, AllocError>
         ensures { IfOk result (λ lines. timeline_rest lines ≡ timeline_lines (evidence_by loaded)) }
     {
         let page_size = loaded.database.header.page_size;
-        let wal = read_wal(alloc, loaded.wal_bytes(), page_size)?;
+        let wal = read_wal(alloc, loaded.beside.wal_bytes(), page_size)?;
+        let journal = read_journal(alloc, loaded.beside.journal_bytes(), page_size)?;
         Ok(TimelineLines {
             database: loaded.database,
             wal,
+            journal,
             next: TimelineLine::Database,
         })
     }
@@ -114,13 +118,29 @@ fn put_wal_line(wal: &WalIndex, line: &mut String) -> Result<(), AllocError>
     put_log_line(name_of(wal.state()), wal.slots(), &tally, line)
 }
 
-// Puts the line of a journal that isn't there into `line`.
-#[tactic(auto, unfolding(crate::specs::Timeline::journal_line))]
-fn put_journal_line(line: &mut String) -> Result<(), AllocError>
-    ensures { OnOk result (string_bytes line.new ≡ ended journal_line) }
+// The name of a journal's state.
+fn journal_name_of(state: JournalState) -> &'static str
+    ensures { result.now ≡ journal_state_name state }
 {
+    match state {
+        JournalState::Absent => "absent",
+        JournalState::Short => "short",
+        JournalState::Live => "live",
+        JournalState::Zeroed => "zeroed",
+        JournalState::Alien => "alien",
+    }
+}
+
+// Puts the journal's line into `line`.
+#[tactic(auto, unfolding(crate::specs::Timeline::journal_line))]
+fn put_journal_line(journal: &JournalIndex, line: &mut String) -> Result<(), AllocError>
+    ensures { OnOk result (string_bytes line.new ≡ ended (journal_line journal.now)) }
+{
+    let state = journal_name_of(journal.state());
+    let records = journal.entries();
+    let good = journal.good();
     line.clear();
-    line.push_str("journal absent records 0 good 0\n")
+    writeln!(line, "journal {state} records {records} good {good}")
 }
 
 // Puts the line of the database file without its write-ahead log into `line`.
@@ -171,7 +191,7 @@ impl Lines for TimelineLines {
                 self.next = TimelineLine::Journal;
             }
             TimelineLine::Journal => {
-                put_journal_line(line)?;
+                put_journal_line(&self.journal, line)?;
                 self.next = TimelineLine::File;
             }
             TimelineLine::File => {

@@ -7,6 +7,10 @@ const USAGE: &str =
 const COMPANIONS: &str =
     "wal absent frames 0 committed 0 pending 0 foreign 0 broken 0\njournal absent records 0 good 0\n";
 
+// The text of `timeline` over the plain database with a log and a journal of no bytes.
+const SHORT: &str =
+    "database pagesize 512 usable 512 pages 2\nwal short frames 0 committed 0 pending 0 foreign 0 broken 0\njournal short records 0 good 0\n0 pages 2\n";
+
 #[test]
 fn a_header_is_accepted_or_refused_by_its_first_fault(rt: HostRuntime) -> Result<(), Fail> {
     let alloc = rt.alloc();
@@ -84,7 +88,7 @@ fn words_and_files_decide(rt: HostRuntime) -> Result<(), Fail> {
     let bytes = plain_database(alloc)?;
     let plain: (&str, &[u8]) = ("a.db", bytes.as_slice());
     let alone = [plain];
-    let cases: [(&[(&str, &[u8])], &[&str], u8, &str); 13] = [
+    let cases: [(&[(&str, &[u8])], &[&str], u8, &str); 12] = [
         (&alone, &[], 1, USAGE),
         (&alone, &["a.db"], 1, USAGE),
         (&alone, &["timeline", "a.db"], 1, USAGE),
@@ -98,14 +102,8 @@ fn words_and_files_decide(rt: HostRuntime) -> Result<(), Fail> {
         (
             &[plain, ("a.db-journal", &[]), ("a.db-wal", &[])],
             &["a.db", "timeline"],
-            13,
-            "refused: not built yet\n",
-        ),
-        (
-            &[("a.db-journal", &[]), plain],
-            &["a.db", "timeline"],
-            13,
-            "refused: not built yet\n",
+            0,
+            SHORT,
         ),
         (&[plain, ("b.db-wal", &[])], &["a.db", "timeline"], 0, PLAIN),
     ];
@@ -153,15 +151,21 @@ fn a_failing_store_is_a_read_fault_and_prints_nothing(rt: HostRuntime) -> Result
     let bytes = plain_database(alloc)?;
     let other = changed(alloc, &[(0, 0)])?;
     let wal = [Trip::Start(1)];
-    let cases: [(&[u8], &[Trip], u8, &str); 5] = [
+    let cases: [(&[u8], &[Trip], u8, &str); 7] = [
         (bytes.as_slice(), &[Trip::Start(0)], 9, ""),
         (bytes.as_slice(), &[Trip::Read(0, 1024)], 9, ""),
         (bytes.as_slice(), &wal, 9, ""),
         (bytes.as_slice(), &[Trip::Read(1, 0)], 9, ""),
+        (bytes.as_slice(), &[Trip::Start(2)], 9, ""),
+        (bytes.as_slice(), &[Trip::Read(2, 0)], 9, ""),
         (other.as_slice(), &wal, 3, "refused: header magic\n"),
     ];
     for (database, trips, end, text) in cases {
-        let named: [(&str, &[u8]); 2] = [("a.db", database), ("a.db-wal", &[])];
+        let named: [(&str, &[u8]); 3] = [
+            ("a.db", database),
+            ("a.db-wal", &[]),
+            ("a.db-journal", &[]),
+        ];
         let (ended, out) = examined(&rt, alloc, &named, trips, AMPLE, &["a.db", "timeline"])?;
         assert_eq!(rt; ended, end);
         assert_eq!(rt; out.taken(), text.as_bytes());
