@@ -1,4 +1,6 @@
 pub mod Bytes
 pub mod Causes
 pub mod Files
+pub mod Held
 pub mod Labels
+pub mod Maps

@@ -1,0 +1,2 @@
+pub mod HeldPages
+pub mod Ranges
