@@ -17,7 +17,7 @@ pub use evidence::{Failed, Part, Place, Span};
 pub use label::Label;
 pub use layout::Layout;
 pub use moment::{Class, Moment};
-pub use pages::{Pages, view_at};
+pub use pages::{PageViews, Pages, view_at};
 pub use sheets::Sheets;
 pub use steps::Steps;
 

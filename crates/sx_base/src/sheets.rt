@@ -1,7 +1,7 @@
 //! Pages that stand in a list.
 ghost use Rattle.std.specs.Prelude.{◌≡◌, ◌^◌, ◌<◌, length};
 
-use crate::pages::Pages;
+use crate::pages::{PageViews, Pages};
 
 /// Pages that stand in a list of fewer than 4,294,967,296 sheets: page 1 first, each page after the one before.
 ///
@@ -26,9 +26,8 @@ impl<'a> Sheets<'a> {
     }
 }
 
-impl<'a> Pages<'a> for Sheets<'a> {
-    ghost use Rattle.std.specs.Prelude.{◌≡◌, ℕ, ◌<◌, None, length, slice_index, option_copied, IfSome};
-    ghost use Rattle.sx_base.specs.Held.{held_pages, held_after};
+impl<'a> PageViews for Sheets<'a> {
+    ghost use Rattle.std.specs.Prelude.{length};
     ghost use Rattle.sx_base.specs.Sheets.{sheet_view};
 
     ghost pages = { λ it. length it.sheets.now };
@@ -36,7 +35,9 @@ impl<'a> Pages<'a> for Sheets<'a> {
     ghost page_size = { λ it. it.page_size };
 
     ghost view = { λ it. sheet_view it.page_size it.sheets.now };
+}
 
+impl<'a> Pages<'a> for Sheets<'a> {
     #[tactic(auto, using(crate::proofs::SheetViews::view_past), unfolding(crate::specs::Sheets::sheet_view))]
     fn size(&self) -> u32 {
         self.sheets.len() as u32
