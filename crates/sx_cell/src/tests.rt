@@ -264,6 +264,7 @@ fn local_lengths_at_their_bounds(rt: HostRuntime) {
         (Kind::IndexLeaf, 65536, 81955, 8199),
     ];
     for (kind, usable, payload, want) in table {
+        assert!(rt; usable >= 480 && usable <= 65536);
         assert_eq!(rt;
             local_len(kind, payload, usable),
             want,
