@@ -8,4 +8,7 @@ mod reading;
 
 pub use cell::{Cell, CellFault, Kind};
 pub use local::local_len;
-pub use reading::read_cell;
+pub use reading::{cells_both_ways, cells_lie_in_page, read_cell};
+
+#[cfg(test)]
+mod tests;

@@ -1,7 +1,11 @@
 //! A cell, read from left to right.
-ghost use Rattle.std.specs.Prelude.{◌≡◌, ◌+◌, ◌≤◌, length, IfOk};
+ghost use Rattle.std.specs.Prelude.{◌≡◌, ◌↔◌, ℕ, ◌+◌, ◌≤◌, List, length, IfOk};
 ghost use Rattle.sx_cell.specs.Fields.{Reads};
 ghost use Rattle.sx_cell.specs.Reading.{Head, head_at, body_at, cell_at, cell_of};
+ghost use Rattle.sx_cell.specs.Cells.{StandsAt, IsTooLong, IsOutside, HasRanges, WasRead};
+ghost use Rattle.sx_cell.specs.declared.cell.Kind.{Kind};
+ghost use Rattle.sx_cell.specs.declared.cell.Cell.{Cell};
+ghost use Rattle.sx_cell.specs.declared.cell.CellFault.TheVariants.{Outside, TooLong};
 
 use crate::cell::{Cell, CellFault, Kind};
 use crate::fields::{has_child, read_key, read_size, read_word_if};
@@ -25,7 +29,9 @@ pub fn read_cell(kind: Kind, page: &[u8], at: u32, usable: u32) -> Result<Cell, 
     requires least { 480 ≤ usable }
     requires within { usable ≤ length page.now }
     requires small { length page.now ≤ 65536 }
-    ensures { result ≡ cell_of kind page.now at usable }
+    ensures exact { result ≡ cell_of kind page.now at usable }
+    ensures ranges { IfOk result (HasRanges kind usable) }
+    ensures read { IfOk result (WasRead page.now usable) }
 {
     if at > usable {
         return Err(CellFault::Outside);
@@ -92,3 +98,19 @@ fn read_body(local: u32, payload: u64, bytes: &[u8]) -> Result<(Option<u32>, &[u
     let (_, rest) = bytes.split_at(local);
     read_word_if((local as u64) < payload, rest)
 }
+
+/// A cell is read exactly where it stands, a payload that is too long is answered exactly where one stands, and the
+/// fault that something ends past the usable bytes exactly where neither does. This is a law of the definitions; the
+/// function has no code.
+#[tactic(auto, using(crate::proofs::FaultLemmas::long_taken, crate::proofs::FaultLemmas::long_again, crate::proofs::FaultLemmas::outside_taken, crate::proofs::FaultLemmas::outside_again))]
+pub fn cells_both_ways()
+    ensures stands { (kind : Kind) (page : List ℕ) (at usable : ℕ) (cell : Cell) → usable ≤ length page → (cell_of kind page at usable ≡ Ok cell) ↔ StandsAt kind page at usable cell }
+    ensures too_long { (kind : Kind) (page : List ℕ) (at usable : ℕ) → usable ≤ length page → (cell_of kind page at usable ≡ Err TooLong) ↔ IsTooLong kind page at usable }
+    ensures outside { (kind : Kind) (page : List ℕ) (at usable : ℕ) → usable ≤ length page → (cell_of kind page at usable ≡ Err Outside) ↔ IsOutside kind page at usable }
+{}
+
+/// What was read from a page lies in it, and its numbers fit each other. This is a law of the definitions; the function
+/// has no code.
+pub fn cells_lie_in_page()
+    ensures { (page : List ℕ) (usable : ℕ) (cell : Cell) → 480 ≤ usable → usable ≤ length page → (was : WasRead page usable cell) → HasRanges was.kind usable cell }
+{}
