@@ -1,1 +1,3 @@
 pub mod PageSizeLemmas
+pub mod VarintLemmas
+pub mod VarintLengths

@@ -1,1 +1,2 @@
 pub mod PageSize
+pub mod Varints

@@ -1,0 +1,12 @@
+//! The moments of the evidence, and the pages of each as borrowed views.
+#![tactic(auto)]
+
+mod case;
+mod evidence;
+mod file_pages;
+mod first_image;
+mod first_images;
+mod gathering;
+mod newest_slot;
+mod origin;
+mod sources;
