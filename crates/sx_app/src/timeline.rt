@@ -1,6 +1,6 @@
 //! The text of `timeline`.
 ghost use Rattle.std.specs.Prelude.{◌≡◌, ◌<◌, ◌++◌, IsTrue, length, OnOk, slice_get, string_bytes};
-ghost use Rattle.sx_moment.specs.Gathered.{is_moment, moments_of};
+ghost use Rattle.sx_moment.specs.Gathered.{is_moment, moments_of, page_count};
 ghost use Rattle.sx_app.specs.Texts.{ended};
 ghost use Rattle.sx_app.specs.Timeline.{database_line, log_line, wal_line, journal_line, moment_name, moment_counts, moment_line, state_name, journal_state_name, timeline_lines, timeline_rest};
 
@@ -51,12 +51,19 @@ fn put_database_line(case: &Case<'_>, line: &mut String) -> Result<(), AllocErro
 {
     let page_size = case.header().page_size;
     let usable = case.header().usable;
-    let pages = case.page_count();
+    let pages = whole_pages(case);
     line.clear();
     writeln!(
         line,
         "database pagesize {page_size} usable {usable} pages {pages}"
     )
+}
+
+// How many whole pages the database file has.
+fn whole_pages(case: &Case<'_>) -> usize
+    ensures { result ≡ page_count case.now }
+{
+    case.evidence().database.len() / case.header().page_size as usize
 }
 
 // The name of a write-ahead log's state.
