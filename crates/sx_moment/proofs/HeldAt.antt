@@ -1,17 +1,19 @@
 -- The pages held at a moment: those of the file, and those past it that an image holds.
-use Rattle.std.proofs.Common.{◌≡◌, ℕ, ◌+◌, ◌-◌, ◌<◌, ◌≤◌, Bool, true, false, cond, not, ◌&&◌, ◌==◌, nat_lt, nat_le, IsTrue, List, [], ◌∷◌, ◌++◌, Option, Some, None, min, length, filter, is_some, is_none, refl, sym, ap, ◌∙◌, arith}
+use Rattle.std.proofs.Common.{◌≡◌, ℕ, ◌+◌, ◌-◌, ◌<◌, ◌≤◌, Bool, true, false, cond, not, ◌&&◌, ◌==◌, nat_lt, nat_le, IsTrue, List, [], ◌∷◌, ◌++◌, Option, Some, None, min, length, get_or, slice_index, find, length-append, filter, is_some, is_none, refl, sym, ap, ◌∙◌, arith}
 use Rattle.std.specs.Option.{option_map, option_or}
 use Rattle.std.specs.List.{range_with_len}
 use Rattle.std.proofs.lemmas.Bool.{le-leb, lt-leb, lt-ltb, le-ltb}
+use Rattle.std.proofs.lemmas.List.{get_or_append_left}
+use Rattle.std.proofs.Math.Seq.{get_or-append-add}
 use Rattle.std.proofs.lemmas.Bool.Decides.{nat_tests}
-use Rattle.sx_base.specs.Held.{held_pages}
+use Rattle.sx_base.specs.Held.{held_pages, held_after}
 use Rattle.sx_base.specs.declared.moment.Moment.{Moment}
 use Rattle.sx_base.specs.declared.moment.Moment.TheVariants.{Journal, File, Commit}
 use Rattle.sx_chain.specs.Newest.{has_number, last_place}
 use Rattle.sx_moment.specs.Gathered.{Gathered, page_count, size_at, limit_at, is_moment}
 use Rattle.sx_moment.specs.Views.{first_place, slot_pages, is_good_record, image_at, can_be_viewed, lock_in, file_page, origin_of, bytes_of, view_of}
 use Rattle.sx_moment.specs.Firsts.{Rises, first_in, taken, passes, file_pages, below}
-use Rattle.sx_moment.specs.Parts.{is_past, past_only, first_at, first_slot, first_record, bound_at}
+use Rattle.sx_moment.specs.Parts.{file_pages_at, is_past, past_only, first_at, first_slot, first_record, bound_at}
 use Rattle.sx_moment.specs.declared.first_image.FirstImage.{FirstImage}
 use Rattle.sx_moment.specs.declared.origin.Origin.{Origin}
 use Rattle.sx_moment.specs.declared.origin.Origin.TheVariants as origins
@@ -117,3 +119,60 @@ held_is case moment past within rises listed =
       ∙ ap (λ b. not (k == lock_in case) && b) (image_there case moment k within)
       ∙ past_passes (lock_in case) (page_count case) (bound_at case moment) k (first_at case moment k) behind
       ∙ ap (passes (below (bound_at case moment)) k) (sym (listed k)))
+
+-- ---- for the code
+
+-- what the code has at hand: a moment, the pages past the file, and the numbers that it asks them by
+pub record AreParts (case : Gathered) (moment : Moment) (past : List FirstImage) (bound size : ℕ) : Type 0 where
+  pub within : limit_at case moment ≤ length case.wal.slots
+  pub rise : Rises 1 past
+  pub are : (number : ℕ) → first_in past number ≡ past_only case (first_at case moment) number
+  pub bound_is : bound ≡ bound_at case moment
+  pub size_is : size ≡ size_at case moment
+
+pub held_parts : (case : Gathered) (moment : Moment) (past : List FirstImage) (bound size : ℕ) → AreParts case moment past bound size
+    → held_pages (size_at case moment) (view_of case moment) ≡ file_pages_at case moment ++ taken (below bound) size past
+held_parts case moment past bound size parts =
+    held_is case moment past parts.within parts.rise parts.are
+    ∙ ap (λ n. file_pages_at case moment ++ taken (below n) (size_at case moment) past) (sym parts.bound_is)
+    ∙ ap (λ n. file_pages_at case moment ++ taken (below bound) n past) (sym parts.size_is)
+
+pub held_count : (case : Gathered) (moment : Moment) (past : List FirstImage) (bound size file count : ℕ) → AreParts case moment past bound size
+    → file ≡ length (file_pages_at case moment) → count ≡ length (taken (below bound) size past) → file + count ≡ length (held_pages (size_at case moment) (view_of case moment))
+held_count case moment past bound size file count parts file_is count_is =
+    let whole = ap length (held_parts case moment past bound size parts) in
+    let long = length-append (file_pages_at case moment) (taken (below bound) size past) in
+    omega (arith, whole, long, file_is, count_is)
+
+pub held_front : (case : Gathered) (moment : Moment) (past : List FirstImage) (bound size i page : ℕ) → AreParts case moment past bound size
+    → i < length (file_pages_at case moment) → page ≡ slice_index (file_pages_at case moment) i → page ≡ slice_index (held_pages (size_at case moment) (view_of case moment)) i
+held_front case moment past bound size i page parts inside page_is =
+    page_is
+    ∙ sym (get_or_append_left (file_pages_at case moment) (taken (below bound) size past) 0 i inside)
+    ∙ ap (λ l. get_or l i 0) (sym (held_parts case moment past bound size parts))
+
+pub held_back : (case : Gathered) (moment : Moment) (past : List FirstImage) (bound size file i page : ℕ) → AreParts case moment past bound size
+    → file ≡ length (file_pages_at case moment) → file ≤ i → page ≡ slice_index (taken (below bound) size past) (i - file)
+    → page ≡ slice_index (held_pages (size_at case moment) (view_of case moment)) i
+held_back case moment past bound size file i page parts file_is past_file page_is =
+    let split : length (file_pages_at case moment) + (i - file) ≡ i = omega (arith, file_is) in
+    page_is
+    ∙ sym (get_or-append-add (file_pages_at case moment) (taken (below bound) size past) (i - file) 0)
+    ∙ ap (λ n. get_or (file_pages_at case moment ++ taken (below bound) size past) n 0) split
+    ∙ ap (λ l. get_or l i 0) (sym (held_parts case moment past bound size parts))
+
+find_one : (test : ℕ → Bool) (x : ℕ) (xs ys : List ℕ) (b : Bool) → test x ≡ b → find test (xs ++ ys) ≡ option_or (find test xs) (find test ys)
+    → find test (x ∷ (xs ++ ys)) ≡ option_or (find test (x ∷ xs)) (find test ys)
+find_one test x xs ys true is rest = rw is refl
+find_one test x xs ys false is rest = rw is rest
+
+find_append : (test : ℕ → Bool) (xs ys : List ℕ) → find test (xs ++ ys) ≡ option_or (find test xs) (find test ys)
+find_append test [] ys = refl
+find_append test (x ∷ xs) ys = find_one test x xs ys (test x) refl (find_append test xs ys)
+
+pub held_next : (case : Gathered) (moment : Moment) (past : List FirstImage) (bound size after : ℕ) → AreParts case moment past bound size
+    → held_after (size_at case moment) (view_of case moment) after
+    ≡ option_or (find (nat_lt after) (file_pages_at case moment)) (find (nat_lt after) (taken (below bound) size past))
+unfolding held_after
+held_next case moment past bound size after parts =
+    ap (find (nat_lt after)) (held_parts case moment past bound size parts) ∙ find_append (nat_lt after) (file_pages_at case moment) (taken (below bound) size past)

@@ -1,5 +1,5 @@
 -- The uncertain pages of a moment are the marked ones without an image.
-use Rattle.std.proofs.Common.{◌≡◌, ℕ, zero, suc, ◌+◌, ◌-◌, ◌<◌, ◌≤◌, Bool, true, false, cond, not, ◌&&◌, ◌||◌, ◌==◌, nat_lt, nat_le, List, [], ◌∷◌, ◌++◌, Option, Some, None, length, filter, is_some, is_none, refl, sym, ap, ◌∙◌, subst, arith, inl, inr}
+use Rattle.std.proofs.Common.{◌≡◌, ℕ, zero, suc, ◌+◌, ◌-◌, ◌<◌, ◌≤◌, Bool, true, false, cond, not, ◌&&◌, ◌||◌, ◌==◌, nat_lt, nat_le, List, [], ◌∷◌, ◌++◌, Option, Some, None, length, get_or, filter, is_some, is_none, refl, sym, ap, ◌∙◌, subst, arith, inl, inr}
 use Rattle.std.specs.Option.{option_map, option_or}
 use Rattle.std.specs.List.{range_with_len, list_any}
 use Rattle.std.proofs.lemmas.Bool.{le-leb, lt-leb, lt-ltb, le-ltb, leb-true, cases_lt, and_parts}
@@ -12,11 +12,15 @@ use Rattle.sx_moment.specs.Gathered.{Gathered, page_count, size_at, limit_at}
 use Rattle.sx_moment.specs.Views.{slot_pages, image_at, can_be_viewed, lock_in, file_page, origin_of}
 use Rattle.sx_moment.specs.Marks.{is_same, is_database, is_uncertain, uncertain_pages}
 use Rattle.sx_moment.specs.Firsts.{Rises, first_in, taken, passes}
-use Rattle.sx_moment.specs.Parts.{is_in_file, is_marked, marked_only, first_slot, has_no_image}
+use Rattle.sx_moment.specs.Parts.{first_at, bound_at, is_in_file, is_marked, marked_only, first_slot, has_no_image, is_bare}
 use Rattle.sx_moment.specs.declared.first_image.FirstImage.{FirstImage}
 use Rattle.sx_moment.specs.declared.origin.Origin.{Origin}
 use Rattle.sx_moment.specs.declared.origin.Origin.TheVariants as origins
-use Rattle.sx_moment.proofs.FirstPlaces.{some_place, some_place-more, first_some, last_some}
+use Rattle.sx_moment.proofs.FirstPlaces.{some_place, is_below, some_place-more, first_some, last_some}
+use Rattle.std.specs.Prelude.{slice_get}
+use Rattle.std.proofs.lemmas.Option.{get_or_from_slice_get, slice_get_within}
+use Rattle.sx_moment.proofs.Listed.{first_in_at}
+use Rattle.sx_moment.proofs.HeldAt.{image_there}
 use Rattle.sx_moment.proofs.Taken.{taken_is}
 
 -- an image outside the file isn't the page of the file
@@ -148,10 +152,6 @@ uncertain_is case moment number =
 
 -- ---- the list
 
--- a mark is uncertain where its page has no image
-abbrev pub is_bare : Gathered → Moment → FirstImage → Bool
-is_bare case moment image = has_no_image case moment image.page
-
 held_case : (case : Gathered) (number n : ℕ) (held : Bool) → has_number (slot_pages case) number n ≡ held → is_same case number n ≡ true → held ≡ true
 held_case case number n true is same = refl
 held_case case number n false is same = sym (same_held case number n is) ∙ same
@@ -202,3 +202,79 @@ uncertain_taken case moment marks rises listed =
       ∙ sym (passes_bare case moment k (marked_only case k))
       ∙ ap (passes (is_bare case moment) k) (sym (listed k)))
     ∙ taken_is (is_bare case moment) (size_at case moment) 1 (size_at case moment) marks (omega arith) rises
+
+-- ---- one mark
+
+not_below : (limit first : ℕ) → not (nat_lt first limit) ≡ nat_le limit first
+not_below limit first = grind (arith, nat_tests)
+
+none_some : {A : Type 0} (o : Option A) (b : Bool) → is_some o ≡ b → is_none o ≡ not b
+none_some None b is = ap not is
+none_some (Some x) b is = ap not is
+
+-- at the file's moment and at a commit a page has no image where its first slot isn't below the limit
+pub bare_first : (case : Gathered) (moment : Moment) (number first : ℕ) → limit_at case moment ≤ length case.wal.slots → first_at case moment number ≡ Some first
+    → has_no_image case moment number ≡ not (nat_lt first (bound_at case moment))
+bare_first case moment number first within is =
+    none_some (image_at case moment number) (nat_lt first (bound_at case moment)) (image_there case moment number within ∙ ap (is_below (bound_at case moment)) is)
+
+pub bare_slot : (case : Gathered) (moment : Moment) (number first : ℕ) → limit_at case moment ≤ length case.wal.slots → first_at case moment number ≡ Some first
+    → has_no_image case moment number ≡ nat_le (bound_at case moment) first
+bare_slot case moment number first within is = bare_first case moment number first within is ∙ not_below (bound_at case moment) first
+
+-- a mark of the list, and its first slot
+marked_case : (case : Gathered) (number first : ℕ) (b : Bool) → is_marked case number ≡ b → cond b (first_slot case number) None ≡ Some first → (is_marked case number ≡ true) × (first_slot case number ≡ Some first)
+marked_case case number first true is found = (is, found)
+marked_case case number first false is found = absurd (let never : None ≡ Some first = found in cc)
+
+pub mark_at : (case : Gathered) (marks : List FirstImage) (number first : ℕ) → first_in marks number ≡ marked_only case number → first_in marks number ≡ Some first
+    → (is_marked case number ≡ true) × (first_slot case number ≡ Some first)
+mark_at case marks number first listed found = marked_case case number first (is_marked case number) refl (sym listed ∙ found)
+
+unmarked_case : (case : Gathered) (number : ℕ) (b : Bool) → is_marked case number ≡ b → is_some (cond b (first_slot case number) None) ≡ false → is_marked case number ≡ false
+unmarked_case case number false is found = is
+unmarked_case case number true is found = absurd (let never : true ≡ false = sym (some_case case number true is) ∙ found in cc)
+
+and_none : (b : Bool) → (b && false) ≡ false
+and_none true = refl
+and_none false = refl
+
+pub unmarked : (case : Gathered) (moment : Moment) (marks : List FirstImage) (number : ℕ) → first_in marks number ≡ marked_only case number → first_in marks number ≡ None
+    → is_uncertain case moment number ≡ false
+unmarked case moment marks number listed found =
+    let other = unmarked_case case number (is_marked case number) refl (ap is_some (sym listed ∙ found)) in
+    uncertain_is case moment number ∙ ap (λ b. nat_le number (size_at case moment) && (b && has_no_image case moment number)) other ∙ and_none (nat_le number (size_at case moment))
+
+pub marked : (case : Gathered) (moment : Moment) (number : ℕ) → is_marked case number ≡ true → is_uncertain case moment number ≡ (nat_le number (size_at case moment) && has_no_image case moment number)
+marked case moment number is = uncertain_is case moment number ∙ ap (λ b. nat_le number (size_at case moment) && (b && has_no_image case moment number)) is
+
+-- the same of what the code asks at a moment that isn't the journal's
+pub bare_other : (case : Gathered) (moment : Moment) (number first limit : ℕ) → (moment ≡ Journal → ⊥) → limit_at case moment ≤ length case.wal.slots → limit ≡ limit_at case moment → first_slot case number ≡ Some first
+    → nat_le limit first ≡ has_no_image case moment number
+bare_other case Journal number first limit other within is found = absurd (other refl)
+bare_other case File number first limit other within is found = ap (λ n. nat_le n first) is ∙ sym (bare_slot case File number first within found)
+bare_other case (Commit k) number first limit other within is found = ap (λ n. nat_le n first) is ∙ sym (bare_slot case (Commit k) number first within found)
+
+swapped : (a b : Bool) → (a && b) ≡ (b && a)
+swapped true true = refl
+swapped true false = refl
+swapped false true = refl
+swapped false false = refl
+
+-- a mark that was found is uncertain where the code takes it
+pub mark_found : (case : Gathered) (moment : Moment) (marks : List FirstImage) (number first size : ℕ) (r : Bool) → first_in marks number ≡ marked_only case number → first_in marks number ≡ Some first → size ≡ size_at case moment
+    → r ≡ (has_no_image case moment number && nat_le number size) → r ≡ is_uncertain case moment number
+mark_found case moment marks number first size r listed found size_is r_is =
+    r_is
+    ∙ ap (λ n. has_no_image case moment number && nat_le number n) size_is
+    ∙ swapped (has_no_image case moment number) (nat_le number (size_at case moment))
+    ∙ sym (marked case moment number (mark_at case marks number first listed found).0)
+
+-- the first slot of a mark of the list
+pub mark_first : (case : Gathered) (marks : List FirstImage) (i : ℕ) (mark : FirstImage) → Rises 1 marks → ((number : ℕ) → first_in marks number ≡ marked_only case number) → slice_get marks i ≡ Some mark
+    → first_slot case mark.page ≡ Some mark.first
+mark_first case marks i mark rises listed at =
+    let here : get_or marks i mark ≡ mark = get_or_from_slice_get marks i mark mark at in
+    let found : first_in marks mark.page ≡ Some mark.first =
+    ap (λ (m : FirstImage). first_in marks m.page) (sym here) ∙ first_in_at 1 marks i mark rises (slice_get_within marks i mark at) ∙ ap (λ (m : FirstImage). Some m.first) here in
+    (mark_at case marks mark.page mark.first (listed mark.page) found).1

@@ -1,5 +1,5 @@
 -- What a case keeps beside the evidence, so that a question takes no search of it.
-use Rattle.std.specs.Prelude.{◌≡◌, ℕ, ◌+◌, ◌^◌, ◌<◌, ◌≤◌, ◌==◌, Bool, not, ◌&&◌, nat_lt, nat_le, if◌then◌else◌, slice_index, List, [], ◌∷◌, ◌++◌, length, Option, None, Some, is_some, is_none}
+use Rattle.std.specs.Prelude.{◌≡◌, ℕ, ◌+◌, ◌^◌, ◌<◌, ◌≤◌, ◌==◌, Bool, not, ◌&&◌, nat_lt, nat_le, min, if◌then◌else◌, slice_index, List, [], ◌∷◌, ◌++◌, length, Option, None, Some, is_some, is_none}
 use Rattle.std.specs.List.{list_any, range_with_len}
 use Rattle.sx_chain.specs.Newest.{has_number}
 use Rattle.sx_base.specs.declared.moment.Moment.{Moment}
@@ -8,10 +8,10 @@ use Rattle.sx_header.specs.Header.{HasRanges}
 use Rattle.sx_header.specs.declared.header.Header.{Header}
 use Rattle.sx_wal.specs.Wal.{Wal}
 use Rattle.sx_journal.specs.Journal.{Journal}
-use Rattle.sx_moment.specs.Gathered.{Gathered, bytes_in, slot_at, entry_at, page_count, limit_at}
+use Rattle.sx_moment.specs.Gathered.{Gathered, bytes_in, slot_at, entry_at, page_count, size_at, limit_at}
 use Rattle.sx_moment.specs.Views.{first_place, slot_pages, is_good_record, lock_in, image_at}
 use Rattle.sx_moment.specs.Marks.{is_same}
-use Rattle.sx_moment.specs.Firsts.{first_in}
+use Rattle.sx_moment.specs.Firsts.{Rises, first_in, file_pages}
 use Rattle.sx_moment.specs.declared.origin.Origin.{Origin}
 use Rattle.sx_moment.specs.declared.origin.Origin.TheVariants.{Database, Slot, Record}
 use Rattle.sx_moment.specs.declared.first_image.FirstImage.{FirstImage}
@@ -77,8 +77,11 @@ marked_only case number = if is_marked case number then first_slot case number e
 pub record IsCase (case : Gathered) (frames : List ℕ) (past marks past_records : List FirstImage) (records : ℕ → Option ℕ) : Type 0 where
   pub gathered : IsGathered case
   pub slots_are : frames ≡ slot_pages case
+  pub past_rise : Rises 1 past
   pub past_are : (number : ℕ) → first_in past number ≡ past_only case (first_slot case) number
+  pub marks_rise : Rises 1 marks
   pub marks_are : (number : ℕ) → first_in marks number ≡ marked_only case number
+  pub past_records_rise : Rises 1 past_records
   pub past_records_are : (number : ℕ) → first_in past_records number ≡ past_only case (first_record case) number
   pub records_are : (number : ℕ) → records number ≡ first_record case number
 
@@ -115,3 +118,11 @@ abbrev pub Stands : Gathered → ℕ → Origin → Type 0
 Stands case number Database = (1 ≤ number) × (number ≤ page_count case)
 Stands case number (Slot i) = i < length case.wal.slots
 Stands case number (Record i) = i < length case.journal.entries
+
+-- a page of the list of marks has no image at the moment
+abbrev pub is_bare : Gathered → Moment → FirstImage → Bool
+is_bare case moment image = has_no_image case moment image.page
+
+-- the pages of the file that have a view at a moment
+abbrev pub file_pages_at : Gathered → Moment → List ℕ
+file_pages_at case moment = file_pages (lock_in case) (min (size_at case moment) (page_count case))

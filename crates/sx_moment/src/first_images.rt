@@ -1,5 +1,5 @@
 //! Lists of pages that are asked by their number.
-ghost use Rattle.std.specs.Prelude.{◌≡◌, ℕ, ◌<◌, ◌≤◌, ◌^◌, length, find, nat_lt, slice_index};
+ghost use Rattle.std.specs.Prelude.{◌≡◌, ℕ, ◌<◌, ◌≤◌, ◌^◌, length, find, nat_lt, slice_get, slice_index, Some};
 ghost use Rattle.sx_moment.specs.Firsts.{Rises, first_in, below, is_taken, taken, IsSearched, IsSearchedAbove};
 
 use crate::first_image::FirstImage;
@@ -30,6 +30,21 @@ impl FirstImages {
         ensures { result ≡ items.items }
     {
         FirstImages { items }
+    }
+
+    /// How many pages there are.
+    pub fn len(&self) -> usize
+        ensures { result ≡ length self.now }
+    {
+        self.items.len()
+    }
+
+    /// The page at a place of the list, from 0, with its first image.
+    pub fn at(&self, place: usize) -> FirstImage
+        requires { place < length self.now }
+        ensures { slice_get self.now place ≡ Some result }
+    {
+        self.items[place]
     }
 
     /// The first image of a page, where the page is listed. The cost is that of a binary search.

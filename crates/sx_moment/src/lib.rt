@@ -9,4 +9,10 @@ mod first_images;
 mod gathering;
 mod newest_slot;
 mod origin;
+mod pages;
+mod snapshot;
 mod sources;
+
+pub use case::Case;
+pub use evidence::Evidence;
+pub use snapshot::Snapshot;
