@@ -1,18 +1,13 @@
 //! The text of `page`.
-ghost use Rattle.std.specs.Prelude.{◌≡◌, IfErr, OnOk, string_bytes, Ok};
-ghost use Rattle.sx_app.specs.Evidence.{◌>>=◌, Gives};
-ghost use Rattle.sx_app.specs.Moments.{moment_of, CanMiss, MayMiss};
+ghost use Rattle.std.specs.Prelude.{◌≡◌, OnOk, string_bytes};
 ghost use Rattle.sx_app.specs.Page.{mark_text, source_line, page_lines, page_rest};
 ghost use Rattle.sx_app.specs.Texts.{ended};
 
 use crate::lines::Lines;
-use crate::moments::snapshot_asked;
-use crate::refused::Refused;
 use crate::texts::part_name;
 use std::alloc::AllocError;
 use sx_base::Place;
-use sx_moment::{Case, Snapshot};
-use sx_words::When;
+use sx_moment::Snapshot;
 
 /// The lines of `page` that are still to come.
 #[derive(Clone, Copy)]
@@ -35,7 +30,7 @@ pub enum PageLine {
 impl PageLines {
     /// All lines over page `no` of a snapshot. The cost is that of finding the page.
     pub fn new(snapshot: &Snapshot<'_, '_>, no: u32) -> Self
-        ensures { page_rest result ≡ page_lines snapshot.now.case snapshot.now.moment «no» }
+        ensures { page_rest result ≡ page_lines snapshot.now.case.now snapshot.now.moment no }
     {
         PageLines {
             number: no,

@@ -157,7 +157,7 @@ fn put_moment_name(case: &Case<'_>, moment: Moment, line: &mut String) -> Result
 // Puts the counts of a moment's pages behind what `line` holds.
 #[tactic(auto, unfolding(crate::specs::Timeline::moment_counts))]
 fn put_moment_counts(snapshot: &Snapshot<'_, '_>, line: &mut String) -> Result<(), AllocError>
-    ensures { OnOk result (string_bytes line.new ≡ string_bytes line.old ++ ended (moment_counts snapshot.now.case snapshot.now.moment)) }
+    ensures { OnOk result (string_bytes line.new ≡ string_bytes line.old ++ ended (moment_counts snapshot.now.case.now snapshot.now.moment)) }
 {
     let pages = snapshot.size();
     let held = snapshot.held();

@@ -86,7 +86,8 @@ impl<'a> Case<'a> {
 
     /// The header of the database file.
     pub fn header(&self) -> &Header
-        ensures { result.now ≡ self.now.header }
+        ensures header { result.now ≡ self.now.header }
+        ensures ranges { HasRanges self.now.header }
     {
         self.sources.header()
     }
