@@ -1,12 +1,12 @@
 -- The pages of the file, all but the lock-byte page.
-use Rattle.std.proofs.Common.{◌≡◌, ℕ, zero, suc, ◌+◌, ◌-◌, ◌<◌, ◌≤◌, Bool, true, false, not, List, [], ◌∷◌, ◌++◌, Option, Some, None, length, get_or, slice_index, filter, find, nat_lt, ◌==◌, refl, sym, ap, ◌∙◌, arith, inl, inr, length-append}
+use Rattle.std.proofs.Common.{◌≡◌, ℕ, suc, ◌+◌, ◌-◌, ◌<◌, ◌≤◌, Bool, false, not, ◌++◌, Some, None, length, get_or, slice_index, filter, find, nat_lt, ◌==◌, refl, sym, ap, ◌∙◌, arith, inl, inr, length-append}
 use Rattle.std.specs.List.{range_with_len}
 use Rattle.std.proofs.lemmas.Bool.Decides.{nat_tests}
 use Rattle.std.proofs.lemmas.Bool.{cases_lt}
 use Rattle.std.proofs.lemmas.List.{get_or_append_left}
 use Rattle.std.proofs.Math.Seq.{get_or-append-add}
 use Rattle.std.proofs.lemmas.List.FromFn.{length-range_with_len, get_or-range_with_len}
-use Rattle.sx_base.proofs.Ranges.{IsNext, all_kept, kept_few, kept_split, kept_cut, find_next, find_none}
+use Rattle.sx_base.proofs.Ranges.{all_kept, kept_few, kept_split, find_next, find_none}
 use Rattle.sx_moment.specs.Firsts.{file_pages}
 
 -- before the lock-byte page they are a range
@@ -87,12 +87,12 @@ page_behind lock count place first within past =
 -- the next page
 pub next_is : (lock count after next : ℕ) → after < next → next ≤ count → (next ≡ lock → ⊥) → ((k : ℕ) → after < k → k < next → k ≡ lock) → find (nat_lt after) (file_pages lock count) ≡ Some next
 next_is lock count after next above within apart between = find_next (λ k. not (k == lock)) 1 count after next (record {
-    above = above;
-    low = omega arith;
-    high = omega arith;
-    passes = grind (arith, nat_tests);
-    between = λ k low more less. let same = between k more less in grind (arith, nat_tests);
-  })
+  above = above;
+  low = omega arith;
+  high = omega arith;
+  passes = grind (arith, nat_tests);
+  between = λ k low more less. let same = between k more less in grind (arith, nat_tests);
+})
 
 pub next_none : (lock count after : ℕ) → ((k : ℕ) → after < k → k ≤ count → k ≡ lock) → find (nat_lt after) (file_pages lock count) ≡ None
 next_none lock count after only = find_none (λ k. not (k == lock)) 1 count after (λ k low high above. let same = only k above (omega arith) in grind (arith, nat_tests))

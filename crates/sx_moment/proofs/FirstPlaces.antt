@@ -1,10 +1,10 @@
 -- The first place that passes a test, and whether one does.
-use Rattle.std.proofs.Common.{◌≡◌, ℕ, zero, suc, ◌+◌, ◌-◌, ◌<◌, ◌≤◌, Bool, true, false, cond, ◌&&◌, ◌||◌, nat_lt, List, [], ◌∷◌, ◌++◌, Option, Some, None, filter, is_some, refl, sym, ap, ◌∙◌, arith, inl, inr, eq-or-lt_of_le, subst, zero-add}
+use Rattle.std.proofs.Common.{◌≡◌, ℕ, zero, suc, ◌+◌, ◌<◌, ◌≤◌, Bool, true, false, cond, ◌||◌, nat_lt, List, [], ◌∷◌, ◌++◌, Option, Some, None, filter, is_some, refl, sym, ap, ◌∙◌, arith, inl, inr, eq-or-lt_of_le, subst, zero-add}
 use Rattle.std.specs.List.{range_with_len, list_any}
 use Rattle.std.proofs.lemmas.Bool.{ltb-true, lt-ltb, le-ltb}
 use Rattle.std.proofs.lemmas.List.Elements.{filter-append}
 use Rattle.std.proofs.lemmas.List.Folds.{list_any-append}
-use Rattle.sx_base.proofs.Ranges.{kept_split, range_append}
+use Rattle.sx_base.proofs.Ranges.{range_append}
 use Rattle.sx_chain.specs.Newest.{last_place}
 use Rattle.sx_chain.proofs.Places.{last_place-more, last_place-zero}
 use Rattle.sx_moment.specs.Views.{first_of, first_place}
@@ -93,9 +93,9 @@ pub first_within : (test : ℕ → Bool) (n : ℕ) → is_below n (first_place t
 first_within test zero = ap (is_below 0) (first_place-zero test) ∙ ap is_some (sym (first_place-zero test))
 first_within test (suc n) =
     subst (λ m. is_below m (first_place test m) ≡ is_some (first_place test m)) (one n) (
-      ap (is_below (n + 1)) (first_place-more test n)
-      ∙ within_case (first_place test n) n (n + 1) (test n) (omega arith) (first_within test n)
-      ∙ ap is_some (sym (first_place-more test n)))
+    ap (is_below (n + 1)) (first_place-more test n)
+    ∙ within_case (first_place test n) n (n + 1) (test n) (omega arith) (first_within test n)
+    ∙ ap is_some (sym (first_place-more test n)))
 
 -- the first place is below a bound exactly where some place below the bound passes
 below_case : (o : Option ℕ) (n bound : ℕ) (b : Bool) → bound ≤ n → is_below bound (or_first o (cond b (Some n) None)) ≡ is_below bound o
@@ -112,6 +112,6 @@ first_below test (suc n) bound within =
       | inl top ↦ rw top (first_within test (suc n) ∙ first_some test (suc n))
       | inr less ↦
           subst (λ m. is_below bound (first_place test m) ≡ some_place test bound) (one n) (ap (is_below bound) (first_place-more test n)
-            ∙ below_case (first_place test n) n bound (test n) (omega arith)
-            ∙ first_below test n bound (omega arith))
+          ∙ below_case (first_place test n) n bound (test n) (omega arith)
+          ∙ first_below test n bound (omega arith))
     ]

@@ -1,7 +1,6 @@
 -- The pages held at a moment: those of the file, and those past it that an image holds.
-use Rattle.std.proofs.Common.{◌≡◌, ℕ, ◌+◌, ◌-◌, ◌<◌, ◌≤◌, Bool, true, false, cond, not, ◌&&◌, ◌==◌, nat_lt, nat_le, IsTrue, List, [], ◌∷◌, ◌++◌, Option, Some, None, min, length, get_or, slice_index, find, length-append, filter, is_some, is_none, refl, sym, ap, ◌∙◌, arith}
+use Rattle.std.proofs.Common.{◌≡◌, ℕ, ◌+◌, ◌-◌, ◌<◌, ◌≤◌, Bool, true, false, cond, not, ◌&&◌, ◌==◌, nat_lt, List, [], ◌∷◌, ◌++◌, Option, Some, None, min, length, get_or, slice_index, find, length-append, is_some, refl, sym, ap, ◌∙◌, arith}
 use Rattle.std.specs.Option.{option_map, option_or}
-use Rattle.std.specs.List.{range_with_len}
 use Rattle.std.proofs.lemmas.Bool.{le-leb, lt-leb, lt-ltb, le-ltb}
 use Rattle.std.proofs.lemmas.List.{get_or_append_left}
 use Rattle.std.proofs.Math.Seq.{get_or-append-add}
@@ -10,14 +9,14 @@ use Rattle.sx_base.specs.Held.{held_pages, held_after}
 use Rattle.sx_base.specs.declared.moment.Moment.{Moment}
 use Rattle.sx_base.specs.declared.moment.Moment.TheVariants.{Journal, File, Commit}
 use Rattle.sx_chain.specs.Newest.{has_number, last_place}
-use Rattle.sx_moment.specs.Gathered.{Gathered, page_count, size_at, limit_at, is_moment}
-use Rattle.sx_moment.specs.Views.{first_place, slot_pages, is_good_record, image_at, can_be_viewed, lock_in, file_page, origin_of, bytes_of, view_of}
+use Rattle.sx_moment.specs.Gathered.{Gathered, page_count, size_at, limit_at}
+use Rattle.sx_moment.specs.Views.{slot_pages, is_good_record, image_at, can_be_viewed, lock_in, file_page, origin_of, bytes_of, view_of}
 use Rattle.sx_moment.specs.Firsts.{Rises, first_in, taken, passes, file_pages, below}
 use Rattle.sx_moment.specs.Parts.{file_pages_at, is_past, past_only, first_at, first_slot, first_record, bound_at}
 use Rattle.sx_moment.specs.declared.first_image.FirstImage.{FirstImage}
 use Rattle.sx_moment.specs.declared.origin.Origin.{Origin}
 use Rattle.sx_moment.specs.declared.origin.Origin.TheVariants as origins
-use Rattle.sx_moment.proofs.FirstPlaces.{is_below, some_place, first_some, last_some, first_below, first_within}
+use Rattle.sx_moment.proofs.FirstPlaces.{is_below, last_some, first_below, first_within}
 use Rattle.sx_moment.proofs.Taken.{held_split}
 
 -- a first image below a bound
@@ -115,10 +114,10 @@ held_is case moment past within rises listed =
     (λ k first whole in_size. file_view case moment k first whole in_size)
     (λ k whole. listed k ∙ not_past (lock_in case) (page_count case) k (first_at case moment k) whole)
     (λ k behind in_size.
-      past_view case moment k behind in_size
-      ∙ ap (λ b. not (k == lock_in case) && b) (image_there case moment k within)
-      ∙ past_passes (lock_in case) (page_count case) (bound_at case moment) k (first_at case moment k) behind
-      ∙ ap (passes (below (bound_at case moment)) k) (sym (listed k)))
+    past_view case moment k behind in_size
+    ∙ ap (λ b. not (k == lock_in case) && b) (image_there case moment k within)
+    ∙ past_passes (lock_in case) (page_count case) (bound_at case moment) k (first_at case moment k) behind
+    ∙ ap (passes (below (bound_at case moment)) k) (sym (listed k)))
 
 -- ---- for the code
 
@@ -176,3 +175,25 @@ pub held_next : (case : Gathered) (moment : Moment) (past : List FirstImage) (bo
 unfolding held_after
 held_next case moment past bound size after parts =
     ap (find (nat_lt after)) (held_parts case moment past bound size parts) ∙ find_append (nat_lt after) (file_pages_at case moment) (taken (below bound) size past)
+
+-- ---- outside the size
+
+not_viewed : (lock size number : ℕ) (o : Option Origin) → can_be_viewed lock size number ≡ false → (cond (can_be_viewed lock size number) o None) ≡ None
+not_viewed lock size number o out = rw out refl
+
+outside : (a b : Bool) → ((a && false) && b) ≡ false
+outside true b = refl
+outside false b = refl
+
+past_size : (lock size number : ℕ) → size < number → can_be_viewed lock size number ≡ false
+past_size lock size number past = rw (lt-leb number size past) (outside (nat_lt 0 number) (not (number == lock)))
+
+pub view_past : (case : Gathered) (moment : Moment) (number : ℕ) → size_at case moment < number → view_of case moment number ≡ None
+unfolding origin_of
+view_past case moment number past =
+    ap (option_map (bytes_of case number)) (not_viewed (lock_in case) (size_at case moment) number (option_or (image_at case moment number) (file_page case number))
+    (past_size (lock_in case) (size_at case moment) number past))
+
+pub view_zero : (case : Gathered) (moment : Moment) → view_of case moment 0 ≡ None
+unfolding origin_of
+view_zero case moment = refl

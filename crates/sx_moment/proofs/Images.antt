@@ -1,5 +1,5 @@
 -- The entries of a map whose keys are kept, as pages with their first images.
-use Rattle.std.proofs.Common.{◌≡◌, ◌≢◌, ℕ, zero, suc, ◌+◌, ◌<◌, ◌≤◌, Bool, true, false, cond, ◌==◌, List, [], ◌∷◌, ◌++◌, Option, Some, None, is_some, refl, sym, ap, ◌∙◌, arith, inl, inr, append_assoc, append-nil, subst}
+use Rattle.std.proofs.Common.{◌≡◌, ℕ, ◌+◌, ◌≤◌, Bool, true, false, cond, ◌==◌, List, [], ◌∷◌, ◌++◌, Option, None, refl, sym, ap, ◌∙◌, arith, inl, inr, append_assoc, append-nil}
 use Rattle.std.specs.List.{AllByRecursion}
 use Rattle.std.specs.List.Sorted.{IsStrictlySortedBy}
 use Rattle.std.specs.Ordering.{nat_cmp, is_eq}
@@ -11,7 +11,6 @@ use Rattle.std.proofs.lemmas.Map.Keys.{sorted_head, sorted_tail}
 use Rattle.sx_moment.specs.Firsts.{Rises, first_in}
 use Rattle.sx_moment.specs.Parts.{images_of}
 use Rattle.sx_moment.specs.declared.first_image.FirstImage.{FirstImage}
-use Rattle.sx_moment.proofs.Listed.{first_at_case}
 
 -- ---- look-ups
 
@@ -83,7 +82,7 @@ first_case keeps entry entries zero_out sorted true kept =
     (rise_from keeps (entry.0 + 1) entries (sorted_tail nat_cmp entry.0 (keys_of entries) sorted) (above entry.0 (keys_of entries) (sorted_head nat_cmp entry.0 (keys_of entries) sorted)))
 first_case keeps entry entries zero_out sorted false kept =
     rw kept (rises_lower (entry.0 + 1) 1 (images_of keeps entries) (omega arith)
-      (rise_from keeps (entry.0 + 1) entries (sorted_tail nat_cmp entry.0 (keys_of entries) sorted) (above entry.0 (keys_of entries) (sorted_head nat_cmp entry.0 (keys_of entries) sorted))))
+    (rise_from keeps (entry.0 + 1) entries (sorted_tail nat_cmp entry.0 (keys_of entries) sorted) (above entry.0 (keys_of entries) (sorted_head nat_cmp entry.0 (keys_of entries) sorted))))
 
 pub images_rise : (keeps : ℕ → Bool) (entries : List (ℕ × ℕ)) → keeps 0 ≡ false → IsStrictlySortedBy nat_cmp (keys_of entries) → Rises 1 (images_of keeps entries)
 images_rise keeps [] zero_out sorted = tt

@@ -1,12 +1,9 @@
 -- Pages in rising order, and those of them that a test keeps.
-use Rattle.std.proofs.Common.{◌≡◌, ◌≢◌, ℕ, zero, suc, ◌+◌, ◌-◌, ◌<◌, ◌≤◌, Bool, true, false, cond, List, [], ◌∷◌, ◌++◌, Option, Some, None, map, take, drop, length, get_or, slice_index, max, filter, find, nat_lt, nat_le, ◌==◌, ◌&&◌, refl, sym, ap, ◌∙◌, arith, inl, inr, eq-or-lt_of_le, is_some}
-use Rattle.std.specs.List.{range_with_len}
-use Rattle.std.specs.List.Sorted.{IsNonDecreasingBy, IsPartitionPoint}
+use Rattle.std.proofs.Common.{◌≡◌, ◌≢◌, ℕ, zero, suc, ◌+◌, ◌<◌, ◌≤◌, Bool, true, false, cond, List, [], ◌∷◌, Some, None, drop, length, get_or, max, find, nat_lt, nat_le, ◌==◌, refl, sym, ap, ◌∙◌, arith, inl, inr, eq-or-lt_of_le}
+use Rattle.std.specs.List.Sorted.{IsNonDecreasingBy}
 use Rattle.std.proofs.lemmas.Bool.Decides.{nat_tests}
 use Rattle.std.proofs.lemmas.Bool.{ltb-true, ltb-false, leb-true, leb-false, lt-ltb, le-ltb, and_parts, cases_lt}
 use Rattle.std.proofs.lemmas.List.{drop_more, get_or_default, get_or-drop, length-drop}
-use Rattle.std.proofs.lemmas.List.Elements.{filter_more}
-use Rattle.std.proofs.lemmas.List.Sums.{length-filter}
 use Rattle.sx_moment.specs.Firsts.{Rises, first_in, is_taken, taken, IsSearched, IsSearchedAbove}
 use Rattle.sx_moment.specs.Views.{first_of}
 use Rattle.sx_moment.specs.declared.first_image.FirstImage.{FirstImage}
@@ -175,8 +172,8 @@ pub found_above : (after : ℕ) (test : FirstImage → Bool) (size place : ℕ) 
 found_above after test size place images within searched =
     find_past after test size place images within (λ k d less. leb-true _ _ (searched.0 k d (omega arith) less))
     ∙ find_first after test size (drop place images) (λ k d below.
-      let long = length-drop place images in
-      let here = get_or-drop place images k d in
-      let above = leb-false _ _ (searched.1 (place + k) d (omega arith) (omega arith)) in
-      let level : (get_or (drop place images) k d).page ≡ (get_or images (place + k) d).page = ap (λ (i : FirstImage). i.page) here in
-      omega arith)
+    let long = length-drop place images in
+    let here = get_or-drop place images k d in
+    let above = leb-false _ _ (searched.1 (place + k) d (omega arith) (omega arith)) in
+    let level : (get_or (drop place images) k d).page ≡ (get_or images (place + k) d).page = ap (λ (i : FirstImage). i.page) here in
+    omega arith)

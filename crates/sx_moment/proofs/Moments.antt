@@ -1,5 +1,5 @@
 -- The list of moments, and where the images of a page stand.
-use Rattle.std.proofs.Common.{◌≡◌, ℕ, zero, suc, ◌+◌, ◌-◌, ◌<◌, ◌≤◌, Bool, true, false, cond, ◌&&◌, nat_le, IsTrue, List, [], ◌∷◌, ◌++◌, Option, Some, None, IfSome, length, map, get_or, is_some, refl, sym, ap, ◌∙◌, arith}
+use Rattle.std.proofs.Common.{◌≡◌, ℕ, zero, suc, ◌+◌, ◌-◌, ◌<◌, ◌≤◌, Bool, true, false, cond, ◌&&◌, nat_le, IsTrue, List, [], ◌∷◌, ◌++◌, Option, Some, None, IfSome, length, map, is_some, refl, ap, ◌∙◌, arith}
 use Rattle.std.specs.Prelude.{slice_get}
 use Rattle.std.specs.Option.{option_map}
 use Rattle.std.specs.List.{range_with_len, last_or}
@@ -11,9 +11,8 @@ use Rattle.sx_base.specs.declared.moment.Moment.TheVariants.{Journal, File, Comm
 use Rattle.sx_chain.specs.Newest.{has_number, last_place}
 use Rattle.sx_chain.proofs.Places.{last_place_passes}
 use Rattle.sx_moment.specs.Gathered.{Gathered, limit_at, is_moment}
-use Rattle.sx_moment.specs.Views.{first_place, slot_pages, is_good_record, image_at}
+use Rattle.sx_moment.specs.Views.{slot_pages, is_good_record, image_at}
 use Rattle.sx_moment.specs.Parts.{IsGathered, Stands, first_record}
-use Rattle.sx_moment.specs.declared.origin.Origin.{Origin}
 use Rattle.sx_moment.specs.declared.origin.Origin.TheVariants as origins
 use Rattle.sx_moment.proofs.FirstPlaces.{is_below, first_within}
 

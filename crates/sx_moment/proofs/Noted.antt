@@ -1,12 +1,12 @@
 -- One image after the other is noted.
-use Rattle.std.proofs.Common.{◌≡◌, ◌≢◌, ℕ, zero, suc, ◌+◌, ◌<◌, ◌≤◌, Bool, true, false, cond, ◌&&◌, ◌||◌, ◌==◌, List, [], ◌∷◌, ◌++◌, Option, Some, None, length, map, get_or, slice_index, is_some, refl, sym, ap, ◌∙◌, arith}
+use Rattle.std.proofs.Common.{◌≡◌, ℕ, ◌+◌, Bool, true, false, cond, ◌&&◌, ◌||◌, ◌==◌, List, Option, Some, None, slice_index, is_some, refl, sym, ap, ◌∙◌, arith}
 use Rattle.std.proofs.Math.ListN.{get_or-map}
 use Rattle.std.proofs.lemmas.Bool.{and_left, and_right, eqb-true}
 use Rattle.std.proofs.lemmas.Bool.Decides.{nat_tests}
 use Rattle.sx_chain.specs.Newest.{has_number}
 use Rattle.sx_wal.specs.declared.slot.Slot.{Slot as LogSlot}
-use Rattle.sx_moment.specs.Gathered.{Gathered, slot_at, entry_at, no_slot}
-use Rattle.sx_moment.specs.Views.{first_place, slot_pages, is_good_record, bytes_of}
+use Rattle.sx_moment.specs.Gathered.{Gathered, slot_at, no_slot}
+use Rattle.sx_moment.specs.Views.{first_place, slot_pages, bytes_of}
 use Rattle.std.specs.Str.{bytes_eq}
 use Rattle.sx_moment.specs.Marks.{is_committed, is_same}
 use Rattle.sx_moment.specs.declared.origin.Origin.TheVariants.{Database, Slot}

@@ -1,12 +1,12 @@
 -- What the log and the journal were read as fits their files.
-use Rattle.std.proofs.Common.{◌≡◌, ℕ, zero, suc, ◌+◌, ◌-◌, ◌*◌, ◌<◌, ◌≤◌, ◌^◌, List, [], ◌∷◌, Option, Some, None, length, refl, sym, ap, ◌∙◌, arith, inl, inr, mul-le-mul_left}
+use Rattle.std.proofs.Common.{◌≡◌, ℕ, ◌+◌, ◌-◌, ◌*◌, ◌<◌, ◌≤◌, ◌^◌, List, Option, Some, None, length, arith, inl, inr, mul-le-mul_left}
 use Rattle.std.specs.Prelude.{slice_get, slice_index, slice_index_or, All}
 use Rattle.std.proofs.lemmas.Bool.{cases_lt}
 use Rattle.std.proofs.lemmas.Option.{slice_get-get_or}
 use Rattle.sx_header.specs.declared.header.Header.{Header}
 use Rattle.sx_header.specs.Header.{HasRanges}
 use Rattle.sx_wal.specs.Wal.{Wal, IsFrame, log_of, wal_of}
-use Rattle.sx_wal.specs.Frames.{frame_at, frame_len}
+use Rattle.sx_wal.specs.Frames.{frame_at}
 use Rattle.sx_wal.specs.declared.slot.Slot.{Slot}
 use Rattle.sx_journal.specs.Journal.{Journal, journal_of}
 use Rattle.sx_moment.specs.Gathered.{bytes_in, no_slot, no_entry}

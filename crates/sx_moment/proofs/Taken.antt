@@ -1,6 +1,6 @@
 -- The pages that a list takes are those of a range that it has below a test; and so the pages held at a moment are those
 -- of the file and those taken past it.
-use Rattle.std.proofs.Common.{◌≡◌, ℕ, zero, suc, ◌+◌, ◌-◌, ◌<◌, ◌≤◌, Bool, true, false, cond, not, ◌&&◌, List, [], ◌∷◌, ◌++◌, Option, Some, None, min, length, filter, nat_lt, nat_le, ◌==◌, refl, sym, ap, ◌∙◌, arith, inl, inr, eq-or-lt_of_le}
+use Rattle.std.proofs.Common.{◌≡◌, ℕ, zero, suc, ◌+◌, ◌-◌, ◌<◌, ◌≤◌, Bool, true, false, not, List, [], ◌∷◌, ◌++◌, Some, None, min, filter, nat_le, ◌==◌, refl, sym, ap, ◌∙◌, arith, inl, inr, eq-or-lt_of_le}
 use Rattle.std.specs.List.{range_with_len}
 use Rattle.std.proofs.lemmas.Bool.{and_right, le-leb, lt-leb}
 use Rattle.std.proofs.lemmas.Bool.Decides.{nat_tests}

@@ -1,8 +1,7 @@
 -- The uncertain pages of a moment are the marked ones without an image.
-use Rattle.std.proofs.Common.{◌≡◌, ℕ, zero, suc, ◌+◌, ◌-◌, ◌<◌, ◌≤◌, Bool, true, false, cond, not, ◌&&◌, ◌||◌, ◌==◌, nat_lt, nat_le, List, [], ◌∷◌, ◌++◌, Option, Some, None, length, get_or, filter, is_some, is_none, refl, sym, ap, ◌∙◌, subst, arith, inl, inr}
+use Rattle.std.proofs.Common.{◌≡◌, ℕ, zero, suc, ◌+◌, ◌<◌, ◌≤◌, Bool, true, false, cond, not, ◌&&◌, ◌||◌, ◌==◌, nat_lt, nat_le, List, Option, Some, None, length, get_or, drop, is_some, is_none, refl, sym, ap, ◌∙◌, subst, arith, inl, inr}
 use Rattle.std.specs.Option.{option_map, option_or}
-use Rattle.std.specs.List.{range_with_len, list_any}
-use Rattle.std.proofs.lemmas.Bool.{le-leb, lt-leb, lt-ltb, le-ltb, leb-true, cases_lt, and_parts}
+use Rattle.std.proofs.lemmas.Bool.{le-leb, lt-leb, cases_lt, and_parts}
 use Rattle.std.proofs.lemmas.Bool.Decides.{nat_tests}
 use Rattle.sx_base.proofs.Ranges.{same_filter}
 use Rattle.sx_base.specs.declared.moment.Moment.{Moment}
@@ -11,15 +10,16 @@ use Rattle.sx_chain.specs.Newest.{has_number, last_place}
 use Rattle.sx_moment.specs.Gathered.{Gathered, page_count, size_at, limit_at}
 use Rattle.sx_moment.specs.Views.{slot_pages, image_at, can_be_viewed, lock_in, file_page, origin_of}
 use Rattle.sx_moment.specs.Marks.{is_same, is_database, is_uncertain, uncertain_pages}
-use Rattle.sx_moment.specs.Firsts.{Rises, first_in, taken, passes}
+use Rattle.sx_moment.specs.Firsts.{Rises, first_in, is_taken, taken, passes}
 use Rattle.sx_moment.specs.Parts.{first_at, bound_at, is_in_file, is_marked, marked_only, first_slot, has_no_image, is_bare}
 use Rattle.sx_moment.specs.declared.first_image.FirstImage.{FirstImage}
 use Rattle.sx_moment.specs.declared.origin.Origin.{Origin}
 use Rattle.sx_moment.specs.declared.origin.Origin.TheVariants as origins
 use Rattle.sx_moment.proofs.FirstPlaces.{some_place, is_below, some_place-more, first_some, last_some}
 use Rattle.std.specs.Prelude.{slice_get}
+use Rattle.std.proofs.Math.ListN.{drop_of_length-le}
 use Rattle.std.proofs.lemmas.Option.{get_or_from_slice_get, slice_get_within}
-use Rattle.sx_moment.proofs.Listed.{first_in_at}
+use Rattle.sx_moment.proofs.Listed.{first_in_at, taken_yes, taken_no}
 use Rattle.sx_moment.proofs.HeldAt.{image_there}
 use Rattle.sx_moment.proofs.Taken.{taken_is}
 
@@ -137,7 +137,7 @@ no_slot_seen case (Commit k) number none =
 
 join_case : (case : Gathered) (moment : Moment) (number : ℕ) (bare : Bool) → has_no_image case moment number ≡ bare
     → ((can_be_viewed (lock_in case) (size_at case moment) number && (bare && nat_le number (page_count case)))
-        && some_place (λ i. nat_le (limit_at case moment) i && is_same case number i) (length case.wal.slots))
+    && some_place (λ i. nat_le (limit_at case moment) i && is_same case number i) (length case.wal.slots))
     ≡ (nat_le number (size_at case moment) && (is_marked case number && bare))
 join_case case moment number true is =
     ap (λ b. (can_be_viewed (lock_in case) (size_at case moment) number && (true && nat_le number (page_count case))) && b) (unseen case (limit_at case moment) number (no_slot_seen case moment number is))
@@ -196,11 +196,11 @@ pub uncertain_taken : (case : Gathered) (moment : Moment) (marks : List FirstIma
 unfolding uncertain_pages
 uncertain_taken case moment marks rises listed =
     same_filter (is_uncertain case moment) (λ k. passes (is_bare case moment) k (first_in marks k)) 1 (size_at case moment) (λ k low high.
-      uncertain_is case moment k
-      ∙ ap (λ b. b && (is_marked case k && has_no_image case moment k)) (le-leb k (size_at case moment) (omega arith))
-      ∙ ap (λ b. b && has_no_image case moment k) (sym (marked_some case k))
-      ∙ sym (passes_bare case moment k (marked_only case k))
-      ∙ ap (passes (is_bare case moment) k) (sym (listed k)))
+    uncertain_is case moment k
+    ∙ ap (λ b. b && (is_marked case k && has_no_image case moment k)) (le-leb k (size_at case moment) (omega arith))
+    ∙ ap (λ b. b && has_no_image case moment k) (sym (marked_some case k))
+    ∙ sym (passes_bare case moment k (marked_only case k))
+    ∙ ap (passes (is_bare case moment) k) (sym (listed k)))
     ∙ taken_is (is_bare case moment) (size_at case moment) 1 (size_at case moment) marks (omega arith) rises
 
 -- ---- one mark
@@ -278,3 +278,19 @@ mark_first case marks i mark rises listed at =
     let found : first_in marks mark.page ≡ Some mark.first =
     ap (λ (m : FirstImage). first_in marks m.page) (sym here) ∙ first_in_at 1 marks i mark rises (slice_get_within marks i mark at) ∙ ap (λ (m : FirstImage). Some m.first) here in
     (mark_at case marks mark.page mark.first (listed mark.page) found).1
+
+-- one mark more, taken or not
+pub count_more : (test : FirstImage → Bool) (size : ℕ) (marks : List FirstImage) (i : ℕ) (mark : FirstImage) (b : Bool) → slice_get marks i ≡ Some mark → is_taken test size mark ≡ b
+    → length (taken test size (drop i marks)) ≡ cond b 1 0 + length (taken test size (drop (i + 1) marks))
+count_more test size marks i mark true at is =
+    let more = ap length (taken_yes test size marks i mark (slice_get_within marks i mark at) (sym (get_or_from_slice_get marks i mark mark at)) is) in
+    omega (arith, more)
+count_more test size marks i mark false at is =
+    let more = ap length (taken_no test size marks i mark (slice_get_within marks i mark at) (sym (get_or_from_slice_get marks i mark mark at)) is) in
+    omega (arith, more)
+
+-- no mark is left
+pub count_all : (test : FirstImage → Bool) (size : ℕ) (marks : List FirstImage) (i count whole : ℕ) → length marks ≤ i → count + length (taken test size (drop i marks)) ≡ whole → count ≡ whole
+count_all test size marks i count whole past so_far =
+    let none : length (taken test size (drop i marks)) ≡ 0 = ap (λ l. length (taken test size l)) (drop_of_length-le marks past) in
+    omega (arith, so_far, none)

@@ -1,5 +1,5 @@
 -- Which views are uncertain: a checkpoint may have written a later frame over the page of the file ("Checkpointing").
-use Rattle.std.specs.Prelude.{ℕ, Bool, true, false, ◌&&◌, nat_le, List, length, filter, Option, None, Some}
+use Rattle.std.specs.Prelude.{ℕ, Bool, true, false, ◌&&◌, nat_le, List, length, filter, Option, Some}
 use Rattle.std.specs.List.{list_any, range_with_len}
 use Rattle.std.specs.Str.{bytes_eq}
 use Rattle.sx_base.specs.declared.moment.Moment.{Moment}

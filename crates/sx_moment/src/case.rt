@@ -320,7 +320,9 @@ impl<'a> Case<'a> {
         ensures { result ≡ length (held_pages (size_at self.now moment) (view_of self.now moment)) }
     {
         let file = self.file_held(moment);
-        file + self.past(moment).count_taken(self.bound(moment), self.size(moment))
+        file + self
+            .past(moment)
+            .count_taken(self.bound(moment), self.size(moment))
     }
 
     /// The page at a place among them, in rising order from 0.

@@ -64,7 +64,11 @@ pub fn same_pages(alloc: Global, sources: &Sources<'_>) -> Result<BTreeMap<u32, 
 }
 
 // Notes the page of slot `i` where the slot equals it.
-fn note_same(found: &mut BTreeMap<u32, u32>, sources: &Sources<'_>, i: u32) -> Result<(), AllocError>
+fn note_same(
+    found: &mut BTreeMap<u32, u32>,
+    sources: &Sources<'_>,
+    i: u32,
+) -> Result<(), AllocError>
     requires { i < length sources.now.wal.slots }
     ensures { OnOk result ((number : ℕ) → is_some (get nat_cmp found.new number)
         ≡ (is_some (get nat_cmp found.old number) || (is_in_file (lock_in sources.now) (page_count sources.now) number && is_same sources.now number i))) }
@@ -80,7 +84,11 @@ fn note_same(found: &mut BTreeMap<u32, u32>, sources: &Sources<'_>, i: u32) -> R
 }
 
 /// Of the pages of a map, those past the end of the file that can have a view. The cost is that of going over the map.
-pub fn past_images(alloc: Global, found: &BTreeMap<u32, u32>, sources: &Sources<'_>) -> Result<FirstImages, AllocError>
+pub fn past_images(
+    alloc: Global,
+    found: &BTreeMap<u32, u32>,
+    sources: &Sources<'_>,
+) -> Result<FirstImages, AllocError>
     ensures { IfOk result (λ images. (number : ℕ) → first_in images number ≡ past_only sources.now (get nat_cmp found.now) number) }
 {
     let lock = sources.lock_page();
@@ -93,7 +101,11 @@ pub fn past_images(alloc: Global, found: &BTreeMap<u32, u32>, sources: &Sources<
 }
 
 /// Of the pages of a map, those that another has too. The cost is a look-up for each.
-pub fn marked_images(alloc: Global, found: &BTreeMap<u32, u32>, same: &BTreeMap<u32, u32>) -> Result<FirstImages, AllocError>
+pub fn marked_images(
+    alloc: Global,
+    found: &BTreeMap<u32, u32>,
+    same: &BTreeMap<u32, u32>,
+) -> Result<FirstImages, AllocError>
     requires { get nat_cmp same.now 0 ≡ None }
     ensures { IfOk result (λ images. (number : ℕ) → first_in images number
         ≡ (if has_key (get nat_cmp same.now) number then get nat_cmp found.now number else None)) }
@@ -106,7 +118,12 @@ pub fn marked_images(alloc: Global, found: &BTreeMap<u32, u32>, same: &BTreeMap<
 }
 
 // Puts a page with its first image behind the others, where it is kept.
-fn push_if(items: &mut Vec<FirstImage>, keeps: bool, page: u32, first: u32) -> Result<(), AllocError>
+fn push_if(
+    items: &mut Vec<FirstImage>,
+    keeps: bool,
+    page: u32,
+    first: u32,
+) -> Result<(), AllocError>
     ensures { OnOk result (items.new.items ≡ items.old.items ++ (if keeps then (record { page = page; first = first }) ∷ [] else [])) }
 {
     if keeps {

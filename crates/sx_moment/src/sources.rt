@@ -61,7 +61,8 @@ impl<'a> Sources<'a> {
 
     /// The header of the database.
     pub fn header(&self) -> &Header
-        ensures { result.now ≡ self.now.header }
+        ensures header { result.now ≡ self.now.header }
+        ensures ranges { HasRanges self.now.header }
     {
         &self.header
     }

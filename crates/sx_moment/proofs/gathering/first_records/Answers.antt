@@ -1,4 +1,4 @@
-use Rattle.std.proofs.Common.{ap, sym, ◌∙◌, ◌≡◌, ℕ, Option, ◌&&◌, ◌==◌, Bool}
+use Rattle.std.proofs.Common.{ap, sym, ◌∙◌, ◌≡◌, ℕ, Option, ◌&&◌, ◌==◌}
 use Rattle.std.specs.Ordering.{nat_cmp, is_eq}
 use Rattle.std.specs.Map.{lookup}
 use Rattle.sx_journal.specs.declared.entry.Entry.{Entry}

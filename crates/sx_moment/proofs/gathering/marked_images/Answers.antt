@@ -2,7 +2,7 @@ use Rattle.std.proofs.Common.{◌≡◌, [], sym, ap, ◌∙◌, subst, rules, i
 use Rattle.std.specs.Ordering.{nat_cmp}
 use Rattle.std.specs.BTreeMap.{get}
 use Rattle.sx_moment.specs.Firsts.{Rises, first_in}
-use Rattle.sx_moment.specs.Parts.{has_key, images_of}
+use Rattle.sx_moment.specs.Parts.{has_key}
 use Rattle.sx_moment.proofs.Images.{images_all, images_rise, images_found}
 use Rattle.sx_moment.proofs.gathering.marked_images.Goals as goal
 

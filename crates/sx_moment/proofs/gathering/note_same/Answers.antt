@@ -1,4 +1,4 @@
-use Rattle.std.proofs.Common.{ap, sym, ◌∙◌, ◌≡◌, ℕ, Option, Bool, true, false, is_some, OnOk, rules}
+use Rattle.std.proofs.Common.{ap, ◌∙◌, ◌≡◌, Bool, true, false, is_some, rules}
 use Rattle.std.specs.Ordering.{nat_cmp}
 use Rattle.std.specs.BTreeMap.{get}
 use Rattle.std.proofs.lemmas.Result.{on_ok_weaker}
@@ -24,7 +24,7 @@ pub returns : goal.returns
 returns c =
     let within : is_in_file (lock_in c.args.sources.now) (page_count c.args.sources.now) (slot_at c.args.sources.now c.args.i).page ≡ true = search rules in
     on_ok_weaker c.note.result (λ each number.
-      ap is_some (each number
-      ∙ ap (λ (b : Bool). noted b c.slot-page.result.page c.args.i (get nat_cmp c.args.found.now number) number) c.is_same.ensures
-      ∙ ap (λ (s : Slot). noted (is_same c.args.sources.now (slot_at c.args.sources.now c.args.i).page c.args.i) s.page c.args.i (get nat_cmp c.args.found.now number) number) c.slot-page.ensures)
-      ∙ marked_more c.args.sources.now _ _ c.args.i number (get nat_cmp c.args.found.now number) within) c.note.ensures
+    ap is_some (each number
+    ∙ ap (λ (b : Bool). noted b c.slot-page.result.page c.args.i (get nat_cmp c.args.found.now number) number) c.is_same.ensures
+    ∙ ap (λ (s : Slot). noted (is_same c.args.sources.now (slot_at c.args.sources.now c.args.i).page c.args.i) s.page c.args.i (get nat_cmp c.args.found.now number) number) c.slot-page.ensures)
+    ∙ marked_more c.args.sources.now _ _ c.args.i number (get nat_cmp c.args.found.now number) within) c.note.ensures

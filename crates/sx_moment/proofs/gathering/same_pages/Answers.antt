@@ -1,9 +1,8 @@
-use Rattle.std.proofs.Common.{ap, sym, ◌∙◌, ℕ, ◌||◌, ◌&&◌, Bool}
+use Rattle.std.proofs.Common.{ap, ◌∙◌, ◌||◌, ◌&&◌}
 use Rattle.sx_moment.specs.Gathered.{page_count}
 use Rattle.sx_moment.specs.Views.{lock_in}
 use Rattle.sx_moment.specs.Marks.{is_same}
 use Rattle.sx_moment.specs.Parts.{is_in_file}
-use Rattle.sx_moment.proofs.FirstPlaces.{some_place-more}
 use Rattle.sx_moment.proofs.Noted.{any_step}
 use Rattle.sx_moment.proofs.gathering.same_pages.Goals as goal
 

@@ -1,4 +1,4 @@
-use Rattle.std.proofs.Common.{◌≡◌, ℕ, Option, None, Bool, cond, ap, ◌∙◌, subst}
+use Rattle.std.proofs.Common.{ℕ, Option, None, Bool, cond, ap, ◌∙◌, subst}
 use Rattle.std.specs.Ordering.{nat_cmp}
 use Rattle.std.specs.BTreeMap.{get}
 use Rattle.sx_moment.specs.Gathered.{page_count}

@@ -1,4 +1,4 @@
-use Rattle.std.proofs.Common.{subst, arith}
+use Rattle.std.proofs.Common.{arith}
 use Rattle.sx_base.proofs.HeldPages.{held_few}
 use Rattle.sx_moment.specs.Gathered.{size_at}
 use Rattle.sx_moment.specs.Views.{view_of}

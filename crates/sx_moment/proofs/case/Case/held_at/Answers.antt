@@ -1,4 +1,4 @@
-use Rattle.std.proofs.Common.{◌<◌, ◌≤◌, length, subst, arith, rules, refl}
+use Rattle.std.proofs.Common.{◌<◌, ◌≤◌, length, arith, rules, refl}
 use Rattle.sx_moment.specs.Firsts.{below, taken}
 use Rattle.sx_moment.specs.Parts.{file_pages_at}
 use Rattle.sx_moment.proofs.HeldAt.{AreParts, held_count, held_front, held_back}

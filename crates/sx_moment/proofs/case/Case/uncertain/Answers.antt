@@ -1,4 +1,4 @@
-use Rattle.std.proofs.Common.{◌≡◌, Some, None, sym, ◌∙◌}
+use Rattle.std.proofs.Common.{◌≡◌, sym, ◌∙◌}
 use Rattle.sx_moment.specs.Firsts.{first_in}
 use Rattle.sx_moment.specs.Parts.{marked_only}
 use Rattle.sx_moment.proofs.Uncertain.{mark_found, unmarked}

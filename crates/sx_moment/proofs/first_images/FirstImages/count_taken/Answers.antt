@@ -1,6 +1,6 @@
-use Rattle.std.proofs.Common.{◌≡◌, ◌≤◌, ◌+◌, ◌<◌, length, drop, arith, rules, suc, ap}
+use Rattle.std.proofs.Common.{◌<◌, length, arith, rules, ap}
 use Rattle.sx_moment.proofs.Listed.{taken_few, taken_yes}
-use Rattle.sx_moment.specs.Firsts.{below, taken}
+use Rattle.sx_moment.specs.Firsts.{below}
 use Rattle.sx_moment.proofs.first_images.FirstImages.count_taken.Goals as goal
 
 pub overflow_add-count : goal.overflow_add-count

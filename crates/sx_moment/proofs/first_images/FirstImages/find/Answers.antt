@@ -1,4 +1,4 @@
-use Rattle.std.proofs.Common.{◌≡◌, ◌≢◌, ◌<◌, ◌≤◌, length, get_or, sym, rules}
+use Rattle.std.proofs.Common.{◌≡◌, ◌<◌, ◌≤◌, length, get_or, sym, rules}
 use Rattle.sx_moment.specs.Firsts.{IsSearched}
 use Rattle.sx_moment.proofs.Listed.{searched_some, searched_other, searched_none}
 use Rattle.sx_moment.proofs.first_images.FirstImages.find.Goals as goal
