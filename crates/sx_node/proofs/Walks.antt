@@ -1,10 +1,10 @@
 -- The walk along the freeblocks: it ends, and its list is the one that the rules determine.
-use Rattle.std.proofs.Common.{◌≡◌, inl, inr, ℕ, zero, suc, ◌+◌, ◌-◌, ◌<◌, ◌≤◌, nat_lt, List, [], ◌∷◌, length, Option, Some, None, refl, sym, ap, ◌∙◌, arith}
+use Rattle.std.proofs.Common.{◌≡◌, inl, inr, ℕ, zero, suc, ◌+◌, ◌-◌, ◌<◌, ◌≤◌, List, [], ◌∷◌, length, Option, Some, None, refl, sym, ap, ◌∙◌, arith}
 use Rattle.std.specs.List.{AllByRecursion}
 use Rattle.std.proofs.lemmas.Bool.{cases_eq}
 use Rattle.std.proofs.lemmas.Bool.Decides.{nat_tests}
 use Rattle.sx_base.specs.declared.evidence.Span.{Span}
-use Rattle.sx_node.specs.Freeblocks.{next_at, size_at, counts, after, IsWalk, listed, walk, blocks_from}
+use Rattle.sx_node.specs.Freeblocks.{counts, after, IsWalk, listed, walk, blocks_from}
 
 -- what holds of a block that counts
 record Counts (usable at size : ℕ) : Type 0 where
@@ -113,7 +113,7 @@ walk_within zero page usable at = tt
 walk_within (suc most) page usable at =
     listed_all (IsBlock usable) (counts page usable at) _
     (λ size is. let block = counted page usable at size is in
-        ((block.least, block.fits), walk_within most page usable (after page at (at + size))))
+    ((block.least, block.fits), walk_within most page usable (after page at (at + size))))
 
 pub blocks_within : (page : List ℕ) (usable at : ℕ) → AllByRecursion (IsBlock usable) (blocks_from page usable at)
 unfolding blocks_from
@@ -135,12 +135,12 @@ walk_is zero page usable at reach = none_past page usable at (omega arith)
 walk_is (suc most) page usable at reach =
     walk_case most page usable at (counts page usable at) refl
     (λ size is.
-        let next = after page at (at + size) in
-        let block = counted page usable at size is in
-        elim (cases_eq next 0) [
-          | inl ends ↦ walk_at_zero most page usable next ends
-          | inr goes_on ↦ walk_is most page usable next (omega (arith, block.least, after_past page at (at + size) goes_on))
-        ])
+    let next = after page at (at + size) in
+    let block = counted page usable at size is in
+    elim (cases_eq next 0) [
+      | inl ends ↦ walk_at_zero most page usable next ends
+      | inr goes_on ↦ walk_is most page usable next (omega (arith, block.least, after_past page at (at + size) goes_on))
+    ])
 
 pub are_blocks : (page : List ℕ) (usable at : ℕ) → IsWalk page usable at (blocks_from page usable at)
 unfolding blocks_from

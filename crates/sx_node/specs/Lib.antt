@@ -1,2 +1,4 @@
 pub mod Nodes
 pub mod Freeblocks
+pub mod Claims
+pub mod Fixed

@@ -1,6 +1,6 @@
 -- B-tree pages: their header and their cell pointer array ("B-tree Pages"). Offsets are in bytes from the start of the
 -- page.
-use Rattle.std.specs.Prelude.{ℕ, ◌+◌, ◌*◌, ◌≤◌, ◌==◌, nat_lt, if◌then◌else◌, List, length, Option, Some, None, Result, Ok, Err}
+use Rattle.std.specs.Prelude.{◌≡◌, ℕ, ◌+◌, ◌*◌, ◌≤◌, ◌==◌, nat_lt, if◌then◌else◌, List, length, Option, Some, None, Result, Ok, Err}
 use Rattle.sx_base.specs.Bytes.{byte_at, two_bytes_at, word_at}
 use Rattle.sx_cell.specs.declared.cell.Kind.{Kind}
 use Rattle.sx_cell.specs.declared.cell.Kind.TheVariants.{TableLeaf, TableInner, IndexLeaf, IndexInner}
@@ -92,3 +92,10 @@ pub record HoldsArray (node : NodePage) : Type 0 where
   pub within : node.usable ≤ length node.page
   pub small : length node.page ≤ 65536
   pub fits : array_end node ≤ node.usable
+
+-- the b-tree page is one of these bytes with that number
+pub record IsNodeOf (page : List ℕ) (number usable : ℕ) (node : NodePage) : Type 0 where
+  pub same_page : node.page ≡ page
+  pub same_number : node.number ≡ number
+  pub same_usable : node.usable ≡ usable
+  pub fits : array_end node ≤ usable

@@ -1,9 +1,14 @@
 //! A b-tree page, its header and its cells.
-ghost use Rattle.std.specs.Prelude.{◌≡◌, ◌+◌, ◌*◌, ◌<◌, ◌≤◌, length, IfOk};
+ghost use Rattle.std.specs.Prelude.{◌≡◌, ◌+◌, ◌*◌, ◌^◌, ◌<◌, ◌≤◌, ◌==◌, length, All, IfOk};
 ghost use Rattle.sx_cell.specs.Cells.{HasRanges, WasRead};
-ghost use Rattle.sx_node.specs.Nodes.{NodePage, HoldsArray, header_at, header_len, kind_of, with_array, node_of, first_freeblock, cell_count, content_start, fragment_bytes, right_child, pointer_at, cell_in};
+ghost use Rattle.sx_node.specs.Nodes.{NodePage, HoldsArray, IsNodeOf, header_at, header_len, kind_of, with_array, node_of, first_freeblock, cell_count, content_start, fragment_bytes, right_child, array_at, pointer_at, cell_in};
+ghost use Rattle.sx_node.specs.Freeblocks.{freeblocks_of};
+ghost use Rattle.sx_node.specs.Claims.{LiesWithin, claims_of};
 
+use crate::claims::Claims;
+use crate::freeblocks::Freeblocks;
 use std::marker::Model;
+use sx_base::Span;
 use sx_bytes::{be16, be32};
 use sx_cell::{Cell, CellFault, Kind, read_cell};
 
@@ -80,7 +85,8 @@ pub fn read_node<'a>(page: &'a [u8], no: u32, usable: u32) -> Result<Node<'a>, N
     requires least { 480 ≤ usable }
     requires within { usable ≤ length page.now }
     requires small { length page.now ≤ 65536 }
-    ensures { result ≡ node_of page.now no usable }
+    ensures exact { result ≡ node_of page.now no usable }
+    ensures page { IfOk result (IsNodeOf page.now no usable) }
 {
     match kind_of(page[header_at(no)]) {
         None => Err(NodeFault::BadFlag),
@@ -94,7 +100,8 @@ fn with_array<'a>(page: &'a [u8], no: u32, usable: u32, kind: Kind) -> Result<No
     requires least { 480 ≤ usable }
     requires within { usable ≤ length page.now }
     requires small { length page.now ≤ 65536 }
-    ensures { result ≡ with_array (record { page = page.now; number = no; usable = usable; kind = kind }) }
+    ensures exact { result ≡ with_array (record { page = page.now; number = no; usable = usable; kind = kind }) }
+    ensures page { IfOk result (IsNodeOf page.now no usable) }
 {
     let header = header_at(no);
     let cells = be16(page, header + 3) as usize;
@@ -185,5 +192,67 @@ impl<'a> Node<'a> {
         ensures read { IfOk result (WasRead self.now.page self.now.usable) }
     {
         read_cell(self.kind, self.page, self.pointer(i), self.usable)
+    }
+
+    /// The freeblocks in the order of their chain, as far as that makes sense. Takes no memory.
+    #[tactic(auto, using(crate::proofs::Walks::few_blocks))]
+    pub fn freeblocks(&self) -> Freeblocks<'a>
+        ensures value { result ≡ freeblocks_of self.now }
+        ensures few { length (freeblocks_of self.now) ≤ self.now.usable }
+    {
+        Freeblocks::start(self.page, self.usable, self.first_freeblock())
+    }
+
+    /// What of the page is claimed: on page 1 the database header, then the header of the page, the cell pointer array
+    /// where there are cells, each cell that can be read in the order of that array, each freeblock in the order of its
+    /// chain. Claims may overlap. Takes no memory.
+    pub fn claims(&self) -> Claims<'a>
+        ensures value { result ≡ claims_of self.now }
+        ensures few { length (claims_of self.now) < 2 ^ 32 }
+        ensures within { All (LiesWithin self.now.usable) (claims_of self.now) }
+    {
+        let _page = self.page;
+        Claims::start(self)
+    }
+
+    /// The same page once more.
+    pub(crate) fn again(&self) -> Node<'a>
+        ensures { result ≡ self.now }
+    {
+        Node {
+            page: self.page,
+            number: self.number,
+            usable: self.usable,
+            kind: self.kind,
+        }
+    }
+
+    /// Whether this is page 1, which begins with the database header.
+    pub(crate) fn is_first(&self) -> bool
+        ensures { result ≡ (self.now.number == 1) }
+    {
+        self.number == 1
+    }
+
+    /// Where the header of the page stands.
+    pub(crate) fn header_span(&self) -> Span
+        ensures start { result.start ≡ header_at self.now.number }
+        ensures len { result.len ≡ header_len self.now.kind }
+    {
+        Span {
+            start: header_at(self.number) as u32,
+            len: header_len(self.kind) as u32,
+        }
+    }
+
+    /// Where the cell pointer array stands.
+    pub(crate) fn array_span(&self) -> Span
+        ensures start { result.start ≡ array_at self.now }
+        ensures len { result.len ≡ 2 * cell_count self.now }
+    {
+        Span {
+            start: (header_at(self.number) + header_len(self.kind)) as u32,
+            len: 2 * self.cells(),
+        }
     }
 }
