@@ -23,6 +23,14 @@ fn second_row_deleted() -> [u8; 512] {
     page
 }
 
+/// The page of three rows with these bytes in it from `at` on.
+fn three_rows_with(rt: &impl Abort, at: usize, bytes: &[u8]) -> [u8; 512] {
+    let mut page = three_rows();
+    assert!(rt; at <= page.len() && bytes.len() <= page.len() - at);
+    page[at..at + bytes.len()].copy_from_slice(bytes);
+    page
+}
+
 /// An interior page of a table with one cell.
 fn one_child() -> [u8; 512] {
     let mut page = [0; 512];
@@ -217,8 +225,7 @@ fn an_array_past_the_usable_bytes_is_bad(rt: HostRuntime) -> Result<(), Fail> {
 
 #[test]
 fn a_faulty_cell_leaves_the_rest(rt: HostRuntime) -> Result<(), Fail> {
-    let mut page = three_rows();
-    page[484..489].copy_from_slice(&[0x88, 0x80, 0x80, 0x80, 0x00]);
+    let page = three_rows_with(&rt, 484, &[0x88, 0x80, 0x80, 0x80, 0x00]);
     let node = read_sound(&page, 2, 512)?;
     assert!(rt; node.cells() == 3);
     assert_eq!(rt; node.cell(2), Err(CellFault::TooLong));
@@ -229,13 +236,20 @@ fn a_faulty_cell_leaves_the_rest(rt: HostRuntime) -> Result<(), Fail> {
         (492, 10, Label::Cell(1)),
     ];
     assert_claims(&rt, &page, 2, 512, &want)?;
-    page[10..14].copy_from_slice(&[0x01, 0xff, 0x01, 0xf6]);
+
+    let page = three_rows_with(&rt, 12, &[0x01, 0xff]);
     let node = read_sound(&page, 2, 512)?;
     assert!(rt; node.cells() == 3);
     assert_eq!(rt;
-        (node.pointer(1), node.cell(1)),
+        (node.pointer(2), node.cell(2)),
         (511, Err(CellFault::Outside))
     );
+    assert_claims(&rt, &page, 2, 512, &want)
+}
+
+#[test]
+fn pointers_lead_anywhere(rt: HostRuntime) -> Result<(), Fail> {
+    let page = three_rows_with(&rt, 8, &[0x01, 0xf6, 0xff, 0xff, 0x01, 0xf6]);
     let want = [
         (0, 8, Label::NodeHeader),
         (8, 6, Label::Pointers),
@@ -243,11 +257,12 @@ fn a_faulty_cell_leaves_the_rest(rt: HostRuntime) -> Result<(), Fail> {
         (502, 10, Label::Cell(2)),
     ];
     assert_claims(&rt, &page, 2, 512, &want)?;
-    page[8..14].copy_from_slice(&[0x00, 0x04, 0xff, 0xff, 0x00, 0x0c]);
+    let page = three_rows_with(&rt, 8, &[0x00, 0x04, 0x01, 0xec, 0x00, 0x0c]);
     let want = [
         (0, 8, Label::NodeHeader),
         (8, 6, Label::Pointers),
         (4, 5, Label::Cell(0)),
+        (492, 10, Label::Cell(1)),
         (12, 4, Label::Cell(2)),
     ];
     assert_claims(&rt, &page, 2, 512, &want)
