@@ -1,0 +1,12 @@
+use Rattle.std.proofs.Common.{◌≡◌, ◌++◌, length}
+use Rattle.std.specs.List.{concat}
+use Rattle.sx_overflow.proofs.payload.Payload.gather.Given as goal
+
+abbrev pub invariant-loop-bytes : goal.invariant-loop-bytes
+invariant-loop-bytes g l = record {
+  joined : l.bytes.items ++ concat l.self.pieces ≡ concat l.fn.self.pieces;
+  whole : l.self.whole ≡ l.fn.self.whole;
+}
+
+abbrev pub decreases-loop-bytes : goal.decreases-loop-bytes
+decreases-loop-bytes g l = length l.self.pieces

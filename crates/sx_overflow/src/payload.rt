@@ -1,0 +1,118 @@
+//! The payload of a cell.
+ghost use Rattle.std.specs.Prelude.{◌≡◌, ◌≤◌, length};
+ghost use Rattle.sx_overflow.specs.Payloads.{payload_of, FitsPage, Gives, Gathers};
+
+use crate::chain::{is_whole_chain, is_within_held, linked, need_of};
+use crate::refusal::{PayloadRefused, ShortChain};
+use std::alloc::Global;
+use std::marker::Model;
+use sx_base::{PageViews, Pages};
+use sx_bytes::be32;
+use sx_cell::Cell;
+
+/// What is to come of a payload, with the pages that its overflow pages are among.
+#[derive(Drop)]
+pub struct Payload<'p, 'a, P: PageViews> {
+    pages: &'p P,
+    usable: u32,
+    local: Option<&'a [u8]>,
+    link: u32,
+    left: u32,
+    counted: bool,
+}
+
+impl<'p, 'a, P: PageViews> Model for Payload<'p, 'a, P> {
+    ghost use Rattle.std.specs.Option.{option_copied, option_to_list};
+    ghost use Rattle.sx_overflow.specs.Payloads.{ToCome, to_come};
+    ghost use Rattle.sx_overflow.specs.Sound.{IsSound};
+
+    ghost Value = { ToCome };
+
+    ghost view = { λ it. to_come (P.pages it.pages.now) (P.view it.pages.now) it.usable (option_to_list (option_copied it.local)) it.link it.left };
+
+    ghost invariant = { λ it. IsSound (P.pages it.pages.now) (P.view it.pages.now) (P.page_size it.pages.now) it.usable (option_to_list (option_copied it.local)) it.left it.counted };
+}
+
+impl<'p, 'a, P: Pages<'a>> Payload<'p, 'a, P> {
+    /// The payload of a cell that was read from `page`, one of `pages` with so many usable bytes.
+    ///
+    /// The usable bytes are 480 or more, and no more than `page` and each of the other pages have. No overflow page is
+    /// looked at yet.
+    pub fn of(pages: &'p P, page: &'a [u8], cell: &Cell, usable: u32) -> Self
+        requires least { 480 ≤ usable }
+        requires held { usable ≤ length page.now }
+        requires within { usable ≤ P.page_size pages.now }
+        requires cell { FitsPage usable cell.now }
+        ensures { result ≡ payload_of (P.pages pages.now) (P.view pages.now) page.now usable cell.now }
+    {
+        let local = &page[cell.local_at as usize..(cell.local_at + cell.local) as usize];
+        Payload {
+            pages,
+            usable,
+            local: if local.is_empty() { None } else { Some(local) },
+            link: cell.overflow.unwrap_or(0),
+            left: (cell.payload - cell.local as u64) as u32,
+            counted: false,
+        }
+    }
+
+    /// The next piece, in order: the local part, then what each overflow page that is needed holds. `None` comes after the
+    /// last one, and at each later call.
+    ///
+    /// A piece is never empty, so an empty local part is none. [`ShortChain`] comes in place of a piece where the next page
+    /// has the number 0 or no view, or where the payload needs more overflow pages than have a view; it comes again at each
+    /// later call. A piece is a borrow of the evidence, and the call takes no memory.
+    pub fn next_piece(&mut self) -> Result<Option<&'a [u8]>, ShortChain>
+        ensures { Gives result self.old self.new }
+    {
+        if let Some(piece) = self.local.take() {
+            return Ok(Some(piece));
+        }
+        if self.left == 0 {
+            return Ok(None);
+        }
+        let need = need_of(self.usable, self.left);
+        if !is_within_held(self.pages, need, self.counted) {
+            return Err(ShortChain);
+        }
+        self.counted = true;
+        let Some(page) = linked(self.pages, self.link) else {
+            return Err(ShortChain);
+        };
+        let len = self.left.min(self.usable - 4);
+        self.link = be32(page, 0);
+        self.left -= len;
+        Ok(Some(&page[4..4 + len as usize]))
+    }
+
+    /// The pieces that are still to come, joined: the payload, where none was taken.
+    ///
+    /// [`PayloadRefused::ShortChain`] comes exactly where [`Payload::next_piece`] would answer it on the way. Otherwise
+    /// memory is asked for at most once, for as many bytes as are still to come, and `Memory` comes only where it isn't
+    /// there. Each page is looked up twice.
+    pub fn gather(mut self, alloc: Global) -> Result<Vec<u8>, PayloadRefused>
+        ensures { Gathers result self.entry }
+    {
+        if !self.is_whole() {
+            return Err(PayloadRefused::ShortChain);
+        }
+        let mut bytes = Vec::with_capacity(alloc, self.len())?;
+        while let Some(piece) = self.next_piece()? {
+            bytes.extend_from_slice(piece)?;
+        }
+        Ok(bytes)
+    }
+
+    /// Whether the pieces make the payload whole.
+    fn is_whole(&self) -> bool
+        ensures { result ≡ self.now.whole }
+    {
+        let need = need_of(self.usable, self.left);
+        is_within_held(self.pages, need, self.counted) && is_whole_chain(self.pages, self.link, need)
+    }
+
+    /// How many bytes are still to come of a whole payload.
+    fn len(&self) -> usize {
+        self.local.map_or(0, |piece| piece.len()) + self.left as usize
+    }
+}
