@@ -1,2 +1,4 @@
 pub mod Joining
 pub mod PageSizeLemmas
+pub mod VarintLemmas
+pub mod VarintLengths

@@ -1,0 +1,11 @@
+//! The cells of b-tree pages: where each part of one stands, and how much of its payload.
+#![tactic(auto)]
+
+mod cell;
+mod fields;
+mod local;
+mod reading;
+
+pub use cell::{Cell, CellFault, Kind};
+pub use local::local_len;
+pub use reading::read_cell;
