@@ -1,1 +1,4 @@
+pub mod Columns
 pub mod Printing
+pub mod Surveying
+pub mod Walking

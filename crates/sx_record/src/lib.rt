@@ -2,13 +2,22 @@
 #![tactic(auto)]
 
 mod escape;
+mod fault;
+mod fields;
+mod serial;
+mod survey;
 mod text;
 mod utf16;
 mod utf8;
 mod value;
+mod values;
 
+pub use fault::RecordFault;
+pub use fields::{Fields, read_types};
+pub use serial::{body_len, is_unused, value_in};
 pub use text::value_text;
 pub use value::Value;
+pub use values::Values;
 
 #[cfg(test)]
 mod tests;

@@ -107,3 +107,102 @@ fn utf16_is_written_unit_by_unit(rt: HostRuntime) -> Result<(), Fail> {
     }
     Ok(())
 }
+
+/// The values of a record as they are written, each after a space, or its fault.
+fn written_columns(alloc: Global, payload: &[u8]) -> Result<Result<Vec<u8>, RecordFault>, Fail> {
+    if payload.len() > 100 {
+        return Err(Fail::from("the payload of a test is short"));
+    }
+    let fields = match read_types(payload) {
+        Ok(fields) => fields,
+        Err(fault) => return Ok(Err(fault)),
+    };
+    let mut text = Vec::new(alloc);
+    for value in fields.values() {
+        text.push(b' ')?;
+        text.extend_from_slice(value_text(alloc, value, Encoding::Utf8)?.as_slice())?;
+    }
+    let mut by_number = Vec::new(alloc);
+    for i in 0..fields.columns() {
+        by_number.push(b' ')?;
+        by_number.extend_from_slice(value_text(
+            alloc,
+            fields.value(i),
+            Encoding::Utf8,
+        )?.as_slice())?;
+    }
+    if text != by_number {
+        return Err(Fail::from("the values differ from those by number"));
+    }
+    Ok(Ok(text))
+}
+
+#[test]
+fn columns_are_read_by_their_types(rt: HostRuntime) -> Result<(), Fail> {
+    let alloc = rt.alloc();
+    let table = vec![in alloc;
+        (&b"\x01"[..], &b""[..]),
+        (&b"\x80\x02"[..], &b""[..]),
+        (&b"\x03\x09\x0d"[..], &b" 1 ''"[..]),
+        (&b"\x04\x00\x08\x0c"[..], &b" NULL 0 x''"[..]),
+        (&b"\x02\x06\x80\0\0\0\0\0\0\0"[..], &b" -9223372036854775808"[..]),
+        (&b"\x02\x07\x40\x09\x21\xfb\x54\x44\x2d\x18"[..], &b" real:400921fb54442d18"[..]),
+        (&b"\x02\x17\x27\x5c\x09\xc3\xa9"[..], &b" '\\'\\\\\\x09\xc3\xa9'"[..]),
+        (&b"\x04\x01\x01\x0e\x7f\x80\xab"[..], &b" 127 -128 x'ab'"[..]),
+        (&b"\x03\x02\x02\x7f\xff\xff\xfe"[..], &b" 32767 -2"[..]),
+        (&b"\x03\x03\x03\x7f\xff\xff\x80\0\0"[..], &b" 8388607 -8388608"[..]),
+        (&b"\x03\x04\x04\x7f\xff\xff\xff\x80\0\0\0"[..], &b" 2147483647 -2147483648"[..]),
+        (
+            &b"\x03\x05\x05\x7f\xff\xff\xff\xff\xff\x80\0\0\0\0\0"[..],
+            &b" 140737488355327 -140737488355328"[..],
+        ),
+        (&b"\x02\x06\x7f\xff\xff\xff\xff\xff\xff\xff"[..], &b" 9223372036854775807"[..]),
+        // a type of nine bytes
+        (&b"\x0a\x80\x80\x80\x80\x80\x80\x80\x80\x09"[..], &b" 1"[..]),
+    ]?;
+    for (payload, want) in &table {
+        let columns = written_columns(alloc, payload)?;
+        assert!(rt;
+            columns.is_ok_and(|text| text.as_slice() == *want),
+            "of {payload:?}"
+        );
+    }
+    Ok(())
+}
+
+#[test]
+fn the_first_fault_of_a_record_is_answered(rt: HostRuntime) -> Result<(), Fail> {
+    let alloc = rt.alloc();
+    let table = vec![in alloc;
+        (&b""[..], RecordFault::HeaderSize),
+        (&b"\x00"[..], RecordFault::HeaderSize),
+        // a size below its own length, one past the payload, one that isn't whole
+        (&b"\x80\x01"[..], RecordFault::HeaderSize),
+        (&b"\x02"[..], RecordFault::HeaderSize),
+        (&b"\x05\x01\x05"[..], RecordFault::HeaderSize),
+        (&b"\x81"[..], RecordFault::HeaderSize),
+        // one byte less than the type needs, also behind an unused type
+        (&b"\x03\x81"[..], RecordFault::HeaderSize),
+        (&b"\x02\x81\x00"[..], RecordFault::HeaderSize),
+        (&b"\x03\x0a\x81\x00"[..], RecordFault::HeaderSize),
+        (&b"\x02\x0a"[..], RecordFault::UnusedType),
+        (&b"\x03\x01\x0b"[..], RecordFault::UnusedType),
+        (&b"\x02\x01"[..], RecordFault::BodyLength),
+        (&b"\x02\x01\x05\x05"[..], RecordFault::BodyLength),
+        // one byte more than the types need
+        (&b"\x03\x01\x05"[..], RecordFault::BodyLength),
+        // bodies of 2^64 bytes in all
+        (
+            &b"\x14\xff\xff\xff\xff\xff\xff\xff\xff\xff\xff\xff\xff\xff\xff\xff\xff\xff\xff\x28"[..],
+            RecordFault::BodyLength,
+        ),
+    ]?;
+    for (payload, want) in &table {
+        let columns = written_columns(alloc, payload)?;
+        assert!(rt;
+            columns.is_err_and(|fault| fault == *want),
+            "of {payload:?}"
+        );
+    }
+    Ok(())
+}
