@@ -1,12 +1,12 @@
 -- The bytes of a stored text as the UTF-8 of its characters ("Text encoding"), and where there are none.
-use Rattle.std.specs.Prelude.{◌≡◌, ℕ, ◌+◌, ◌*◌, ◌/◌, ◌%◌, ◌==◌, true, if◌then◌else◌, List, [], ◌∷◌, ◌++◌, length, Option, Some, None, encode_utf8, encode_utf8_all}
+use Rattle.std.specs.Prelude.{◌≡◌, ℕ, ◌+◌, ◌*◌, ◌/◌, ◌%◌, ◌<◌, ◌==◌, true, if◌then◌else◌, List, [], ◌∷◌, ◌++◌, length, Option, Some, None, encode_utf8, encode_utf8_all}
 use Rattle.std.specs.List.{flat_map}
 use Rattle.std.specs.Option.{option_map}
 use Rattle.std.specs.Str.{all_scalars}
 use Rattle.std.specs.Char.Escape.{encode_utf16}
 use Rattle.std.specs.Char.Utf16.{utf16_chars}
 use Rattle.sx_bytes.specs.declared.encoding.Encoding.{Encoding}
-use Rattle.sx_bytes.specs.declared.encoding.Encoding.TheVariants.{Utf8, Utf16Le, Utf16Be}
+use Rattle.sx_bytes.specs.declared.encoding.Encoding.TheVariants.{Utf8, Utf16Le}
 
 -- the unit of UTF-16 in two bytes: under UTF-16le its low byte comes first, else its high byte
 abbrev pub unit_of : Encoding → ℕ → ℕ → ℕ
@@ -42,9 +42,19 @@ abbrev pub unit_bytes : Encoding → ℕ → List ℕ
 unit_bytes Utf16Le unit = unit % 256 ∷ (unit / 256) ∷ []
 unit_bytes _ unit = (unit / 256) ∷ (unit % 256) ∷ []
 
+-- each number is a byte
+abbrev pub IsBytes : List ℕ → Type 0
+IsBytes [] = Unit {0}
+IsBytes (byte ∷ bytes) = (byte < 256) × IsBytes bytes
+
 -- the bytes are some characters in UTF-16, and the text is the same characters in UTF-8
 pub record IsSpelled (encoding : Encoding) (bytes text : List ℕ) : Type 0 where
   pub characters : List ℕ
   pub scalars : all_scalars characters ≡ true
   pub stored : bytes ≡ flat_map (unit_bytes encoding) (flat_map encode_utf16 characters)
   pub spelled : text ≡ encode_utf8_all characters
+
+-- the text is what the bytes say: the same bytes under UTF-8, else the same characters
+abbrev pub Decodes : Encoding → List ℕ → List ℕ → Type 0
+Decodes Utf8 bytes text = text ≡ bytes
+Decodes encoding bytes text = IsSpelled encoding bytes text

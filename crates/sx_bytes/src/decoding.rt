@@ -1,6 +1,7 @@
 //! The texts of a database, which may be stored in UTF-16, as UTF-8.
-ghost use Rattle.std.specs.Prelude.{◌≡◌, ◌+◌, ◌<◌, ◌∷◌, [], length, IfOk, IfSome, MatchOption};
-ghost use Rattle.sx_bytes.specs.Decoding.{units_of, odd_byte, joined, decoded};
+ghost use Rattle.std.specs.Prelude.{◌≡◌, ◌↔◌, ℕ, List, Some, ◌+◌, ◌<◌, ◌∷◌, [], length, IfOk, IfSome, MatchOption};
+ghost use Rattle.sx_bytes.specs.declared.encoding.Encoding.{Encoding};
+ghost use Rattle.sx_bytes.specs.Decoding.{units_of, odd_byte, joined, decoded, IsBytes, Decodes};
 ghost use Rattle.std.specs.Char.Utf16.{utf16_chars};
 
 use crate::encoding::Encoding;
@@ -72,6 +73,13 @@ pub fn split_first_unit(bytes: &[u8], encoding: Encoding) -> Option<(u16, &[u8])
     };
     Some((unit, behind))
 }
+
+/// Bytes decode to a text exactly where both are the same characters, in the two encodings. This is a law of the
+/// definitions; the function has no code.
+#[tactic(auto, using(crate::proofs::Spelling::decoded_both))]
+pub fn decoding_both_ways()
+    ensures { (encoding : Encoding) (bytes text : List ℕ) → IsBytes bytes → (decoded encoding bytes ≡ Some text) ↔ Decodes encoding bytes text }
+{}
 
 #[cfg(test)]
 mod tests {
