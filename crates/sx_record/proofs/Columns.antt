@@ -1,8 +1,7 @@
 -- The types of a header and the columns behind it, one at a time.
-use Rattle.std.proofs.Common.{◌≡◌, ℕ, zero, suc, ◌+◌, ◌-◌, ◌<◌, ◌≤◌, true, List, [], ◌∷◌, ◌++◌, length, take, drop, map, Option, Some, None, is_some, refl, sym, ap, ◌∙◌, arith, sub-one, length-drop}
+use Rattle.std.proofs.Common.{◌≡◌, ℕ, zero, suc, ◌+◌, ◌<◌, ◌≤◌, true, List, [], ◌∷◌, length, take, drop, Option, Some, None, is_some, refl, ap, ◌∙◌, arith, sub-one, length-drop}
 use Rattle.std.specs.Option.{option_map}
 use Rattle.sx_bytes.specs.Varints.{varint_at}
-use Rattle.sx_record.specs.Content.{Content}
 use Rattle.sx_record.specs.SerialTypes.{body_len, content_in}
 use Rattle.sx_record.specs.Records.{types_behind, types_in, found_first, contents, bodies_len, listed, columns_in, IsFilled}
 

@@ -1,4 +1,5 @@
 pub mod Columns
+pub mod Layouts
 pub mod Printing
 pub mod Surveying
 pub mod Walking

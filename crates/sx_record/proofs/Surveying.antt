@@ -1,5 +1,5 @@
 -- The survey of a header's types, one type at a time, and what it says of the record.
-use Rattle.std.proofs.Common.{◌≡◌, ℕ, zero, suc, ◌+◌, ◌-◌, ◌<◌, ◌≤◌, ◌==◌, Bool, true, false, ◌||◌, nat_le, if◌then◌else◌, List, [], ◌∷◌, length, drop, Option, Some, None, is_some, Result, Ok, Err, refl, sym, ap, ◌∙◌, arith, add-zero}
+use Rattle.std.proofs.Common.{◌≡◌, ℕ, suc, ◌+◌, ◌-◌, ◌<◌, ◌==◌, Bool, true, false, ◌||◌, nat_le, if◌then◌else◌, List, [], ◌∷◌, length, drop, Option, Some, None, is_some, Ok, Err, refl, sym, ap, ◌∙◌, arith, add-zero}
 use Rattle.std.proofs.lemmas.Bool.Decides.{nat_tests}
 use Rattle.std.proofs.lemmas.Bool.{eqb-true}
 use Rattle.std.specs.Option.{option_map}
@@ -8,7 +8,6 @@ use Rattle.sx_bytes.specs.Varints.{varint_at}
 use Rattle.sx_record.specs.SerialTypes.{body_len, is_unused}
 use Rattle.sx_record.specs.Records.{types_in, bodies_len, listed, contents, columns_in, IsFilled, survey_of, typed_record}
 use Rattle.sx_record.specs.Surveys.{lowered, is_filled, survey_behind}
-use Rattle.sx_record.specs.declared.fault.RecordFault.{RecordFault}
 use Rattle.sx_record.specs.declared.fault.RecordFault.TheVariants.{HeaderSize, UnusedType, BodyLength}
 use Rattle.sx_record.specs.declared.survey.Survey.{Survey}
 use Rattle.sx_record.proofs.Columns.{no_type, no_bytes, one_type}

@@ -1,5 +1,5 @@
 -- The values of a record walked to one of them.
-use Rattle.std.proofs.Common.{◌≡◌, ℕ, zero, suc, ◌+◌, ◌-◌, ◌<◌, List, [], ◌∷◌, length, drop, slice_get, Option, Some, None, IsSome, MatchOption, rules, refl, sym, ap, ◌∙◌, arith, length-drop, add-one}
+use Rattle.std.proofs.Common.{◌≡◌, ℕ, zero, suc, ◌+◌, ◌<◌, List, [], ◌∷◌, length, drop, slice_get, Option, Some, None, IsSome, MatchOption, rules, sym, ap, ◌∙◌, arith, length-drop}
 use Rattle.std.proofs.lemmas.List.{drop-drop}
 use Rattle.sx_record.specs.declared.value.Value.{Value}
 use Rattle.sx_record.specs.Content.{Content, content_of}

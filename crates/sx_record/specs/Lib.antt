@@ -1,5 +1,6 @@
 pub mod Content
 pub mod Escape
+pub mod Layout
 pub mod Records
 pub mod SerialTypes
 pub mod Surveys

@@ -1,5 +1,5 @@
 -- Serial types: how long the body of a column is, and which value its bytes are ("Record Format").
-use Rattle.std.specs.Prelude.{ℕ, ◌+◌, ◌-◌, ◌*◌, ◌/◌, ◌%◌, ◌^◌, ◌==◌, Bool, ◌||◌, nat_lt, if◌then◌else◌, ℤ, pos, negsuc, suc, List}
+use Rattle.std.specs.Prelude.{ℕ, ◌+◌, ◌-◌, ◌/◌, ◌%◌, ◌^◌, ◌==◌, Bool, ◌||◌, nat_lt, if◌then◌else◌, ℤ, pos, negsuc, suc, List}
 use Rattle.sx_base.specs.Bytes.{byte_at, two_bytes_at, three_bytes_at, word_at, six_bytes_at, eight_bytes_at}
 use Rattle.sx_record.specs.Content.{Content, null, integer, real, text, blob}
 

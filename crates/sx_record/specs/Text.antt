@@ -3,7 +3,7 @@ use Rattle.std.specs.Prelude.{ℕ, List, [], ◌∷◌, ◌++◌, codes}
 use Rattle.std.specs.Fmt.{signed_decimal}
 use Rattle.hex.specs.Hex.{encode_lower}
 use Rattle.sx_bytes.specs.declared.encoding.Encoding.{Encoding}
-use Rattle.sx_bytes.specs.declared.encoding.Encoding.TheVariants.{Utf8, Utf16Le, Utf16Be}
+use Rattle.sx_bytes.specs.declared.encoding.Encoding.TheVariants.{Utf8}
 use Rattle.sx_record.specs.Content.{Content, null, integer, real, text, blob}
 use Rattle.sx_record.specs.Utf8.{utf8_text}
 use Rattle.sx_record.specs.Utf16.{utf16_text}

@@ -1,6 +1,7 @@
 //! The columns of a record.
-ghost use Rattle.std.specs.Prelude.{◌≡◌, ◌^◌, ◌<◌, ◌≤◌, length, slice_get, IfSome, MatchOption, MatchResult, Some, None, Ok, Err};
-ghost use Rattle.sx_record.specs.Content.{content_of};
+ghost use Rattle.std.specs.Prelude.{◌≡◌, ◌↔◌, ℕ, ◌^◌, ◌<◌, ◌≤◌, List, length, slice_get, IfSome, MatchOption, MatchResult, Some, None, Ok, Err};
+ghost use Rattle.sx_record.specs.Content.{Content, content_of};
+ghost use Rattle.sx_record.specs.Layout.{HasHeader, IsRecord, IsUnusable, IsMisfilled};
 ghost use Rattle.sx_record.specs.Records.{types_in, parts_of, typed_record, record_of};
 
 use crate::fault::RecordFault;
@@ -80,6 +81,16 @@ fn read_parts<'a>(types: &'a [u8], bodies: &'a [u8]) -> Result<Fields<'a>, Recor
         columns: survey.columns,
     })
 }
+
+/// A payload is read as a record exactly where it is one in the words of the format, with the same columns, and each
+/// fault is answered exactly where it is the first one. This is a law of the definitions; the function has no code.
+#[tactic(auto, using(crate::proofs::Layouts::unusable_both, crate::proofs::Layouts::misfilled_both))]
+pub fn records_both_ways()
+    ensures record { (payload : List ℕ) (columns : List Content) → (record_of payload ≡ Ok columns) ↔ IsRecord payload columns }
+    ensures header_size { (payload : List ℕ) → (record_of payload ≡ Err RecordFault.HeaderSize) ↔ ((types bodies : List ℕ) → HasHeader payload types bodies → ⊥) }
+    ensures unused_type { (payload : List ℕ) → (record_of payload ≡ Err RecordFault.UnusedType) ↔ IsUnusable payload }
+    ensures body_length { (payload : List ℕ) → (record_of payload ≡ Err RecordFault.BodyLength) ↔ IsMisfilled payload }
+{}
 
 impl<'a> Fields<'a> {
     /// How many columns there are.

@@ -13,7 +13,7 @@ mod value;
 mod values;
 
 pub use fault::RecordFault;
-pub use fields::{Fields, read_types};
+pub use fields::{Fields, read_types, records_both_ways};
 pub use serial::{body_len, is_unused, value_in};
 pub use text::value_text;
 pub use value::Value;

@@ -1,4 +1,4 @@
-use Rattle.std.proofs.Common.{◌≡◌, ◌<◌, length, drop, ◌∙◌, arith, ap, sym}
+use Rattle.std.proofs.Common.{◌≡◌, ◌<◌, length, drop, ◌∙◌, arith, ap}
 use Rattle.sx_record.proofs.Walking.{column_found, column_is, columns_left}
 use Rattle.sx_record.proofs.fields.Fields.value.Goals as goal
 
