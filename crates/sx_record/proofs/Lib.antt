@@ -1,5 +1,6 @@
 pub mod Columns
 pub mod Layouts
+pub mod Places
 pub mod Printing
 pub mod Surveying
 pub mod Walking

@@ -1,6 +1,7 @@
 pub mod Content
 pub mod Escape
 pub mod Layout
+pub mod Places
 pub mod Records
 pub mod SerialTypes
 pub mod Surveys

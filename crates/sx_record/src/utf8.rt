@@ -1,6 +1,7 @@
 //! Texts in UTF-8 as they are printed.
-ghost use Rattle.std.specs.Prelude.{◌≡◌, ◌++◌, ◌<◌, ◌≤◌, length, slice_index, IfOk, IfSome, OnOk};
+ghost use Rattle.std.specs.Prelude.{◌≡◌, ℕ, List, ◌++◌, ◌<◌, ◌≤◌, length, slice_index, IfOk, IfSome, OnOk};
 ghost use Rattle.std.specs.List.{list_all};
+ghost use Rattle.sx_record.specs.Places.{IsPrinted};
 ghost use Rattle.sx_record.specs.Utf8.{is_within, is_continued, sequence_of, sequence_len, character_len, utf8_text};
 
 use crate::escape::push_byte;
@@ -28,6 +29,13 @@ pub fn push_utf8(text: &mut Vec<u8>, bytes: &[u8]) -> Result<(), AllocError>
     }
     Ok(())
 }
+
+/// A text is printed by a piece for each byte: the byte itself where it is part of a character from U+00A0 up, wherever
+/// that begins, and else what stands for a single byte. This is a law of the definitions; the function has no code.
+#[tactic(auto, using(crate::proofs::Places::text_printed))]
+pub fn each_byte_is_printed_by_its_place()
+    ensures { (bytes : List ℕ) → IsPrinted bytes (utf8_text bytes) }
+{}
 
 /// Appends the character from U+00A0 up at the front, or else the first byte, and answers the bytes behind it.
 #[tactic(auto, using(crate::proofs::Printing::character_printed, crate::proofs::Printing::byte_printed))]
