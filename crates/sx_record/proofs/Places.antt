@@ -1,78 +1,51 @@
 -- The text of bytes in UTF-8 is made of a piece for each byte, and each piece is what the byte's own place says.
-use Rattle.std.proofs.Common.{◌≡◌, ◌⊎◌, inl, inr, ℕ, zero, suc, ◌+◌, ◌-◌, ◌<◌, ◌≤◌, ◌==◌, Bool, true, false, ◌&&◌, nat_le, if◌then◌else◌, List, [], ◌∷◌, ◌++◌, length, take, drop, slice_index, slice_get, Option, Some, None, refl, ap, subst, ◌∙◌, arith, sub-one}
+use Rattle.std.proofs.Common.{◌≡◌, ◌⊎◌, inl, inr, ℕ, zero, suc, ◌+◌, ◌-◌, ◌<◌, ◌≤◌, ◌==◌, Bool, true, false, ◌&&◌, nat_le, if◌then◌else◌, List, [], ◌∷◌, ◌++◌, length, take, drop, slice_index, slice_get, Option, Some, None, refl, ap, ◌∙◌, arith, sub-one}
 use Rattle.std.proofs.lemmas.Bool.Decides.{nat_tests}
 use Rattle.std.specs.List.{list_all, flat_map}
 use Rattle.sx_record.specs.Escape.{byte_text}
 use Rattle.sx_record.specs.Utf8.{is_within, sequence_of, is_continued, continued_len, sequence_len, character_len, utf8_behind, utf8_text}
 use Rattle.sx_record.specs.Places.{IsPart, IsPrinted}
 use Rattle.sx_record.specs.declared.utf8.Sequence.{Sequence}
+use Rattle.sx_record.proofs.Rows.{IsRow, row_of}
 
 -- ---- a byte of a sequence behind its first is the first of none
 
 -- what each row of the table keeps to
-record IsRow (first : ℕ) (sequence : Sequence) : Type 0 where
+record IsLead (first : ℕ) (sequence : Sequence) : Type 0 where
   pub lead : 0xc0 ≤ first
   pub long : 2 ≤ sequence.len
   pub high : sequence.high ≤ 0xbf
 
-abbrev row : ℕ → ℕ → ℕ → Option Sequence
-row len low high = Some (record { len = len; low = low; high = high })
+lead_by : (first : ℕ) (sequence : Sequence) → IsRow first sequence → IsLead first sequence
+lead_by first sequence (inl two) = record {
+  lead = (let least = two.least in omega arith);
+  long = (let len = two.len in omega arith);
+  high = two.high;
+}
+lead_by first sequence (inr (inl three)) = record {
+  lead = (let least = three.least in omega arith);
+  long = (let len = three.len in omega arith);
+  high = three.high;
+}
+lead_by first sequence (inr (inr four)) = record {
+  lead = (let least = four.least in omega arith);
+  long = (let len = four.len in omega arith);
+  high = four.high;
+}
 
-abbrev the_row : Sequence → Option Sequence → Sequence
-the_row other None = other
-the_row other (Some sequence) = sequence
-
-row_is : (first len low high : ℕ) (sequence : Sequence) → row len low high ≡ Some sequence → 0xc0 ≤ first → 2 ≤ len → high ≤ 0xbf → IsRow first sequence
-row_is first len low high sequence is lead long below =
-    let made : IsRow first (the_row sequence (row len low high)) = record { lead = lead; long = long; high = below } in
-    subst (IsRow first) (ap (the_row sequence) is) made
-
-abbrev rows : Bool → Bool → Bool → Bool → Bool → Bool → Bool → Bool → Option Sequence
-rows t1 t2 t3 t4 t5 t6 t7 t8 =
-    if t1 then row 2 0x80 0xbf
-    else (if t2 then row 3 0xa0 0xbf
-    else (if t3 then row 3 0x80 0xbf
-    else (if t4 then row 3 0x80 0x9f
-    else (if t5 then row 3 0x80 0xbf
-    else (if t6 then row 4 0x90 0xbf
-    else (if t7 then row 4 0x80 0xbf
-    else (if t8 then row 4 0x80 0x8f
-    else None)))))))
-
-rows_by : (first : ℕ) (t1 t2 t3 t4 t5 t6 t7 t8 : Bool) → is_within 0xc2 0xdf first ≡ t1
-    → (first == 0xe0) ≡ t2
-    → is_within 0xe1 0xec first ≡ t3
-    → (first == 0xed) ≡ t4
-    → is_within 0xee 0xef first ≡ t5
-    → (first == 0xf0) ≡ t6
-    → is_within 0xf1 0xf3 first ≡ t7
-    → (first == 0xf4) ≡ t8
-    → (sequence : Sequence) → rows t1 t2 t3 t4 t5 t6 t7 t8 ≡ Some sequence → IsRow first sequence
-rows_by first true t2 t3 t4 t5 t6 t7 t8 e1 e2 e3 e4 e5 e6 e7 e8 sequence is = row_is first 2 0x80 0xbf sequence is (grind (arith, nat_tests)) (omega arith) (omega arith)
-rows_by first false true t3 t4 t5 t6 t7 t8 e1 e2 e3 e4 e5 e6 e7 e8 sequence is = row_is first 3 0xa0 0xbf sequence is (grind (arith, nat_tests)) (omega arith) (omega arith)
-rows_by first false false true t4 t5 t6 t7 t8 e1 e2 e3 e4 e5 e6 e7 e8 sequence is = row_is first 3 0x80 0xbf sequence is (grind (arith, nat_tests)) (omega arith) (omega arith)
-rows_by first false false false true t5 t6 t7 t8 e1 e2 e3 e4 e5 e6 e7 e8 sequence is = row_is first 3 0x80 0x9f sequence is (grind (arith, nat_tests)) (omega arith) (omega arith)
-rows_by first false false false false true t6 t7 t8 e1 e2 e3 e4 e5 e6 e7 e8 sequence is = row_is first 3 0x80 0xbf sequence is (grind (arith, nat_tests)) (omega arith) (omega arith)
-rows_by first false false false false false true t7 t8 e1 e2 e3 e4 e5 e6 e7 e8 sequence is = row_is first 4 0x90 0xbf sequence is (grind (arith, nat_tests)) (omega arith) (omega arith)
-rows_by first false false false false false false true t8 e1 e2 e3 e4 e5 e6 e7 e8 sequence is = row_is first 4 0x80 0xbf sequence is (grind (arith, nat_tests)) (omega arith) (omega arith)
-rows_by first false false false false false false false true e1 e2 e3 e4 e5 e6 e7 e8 sequence is = row_is first 4 0x80 0x8f sequence is (grind (arith, nat_tests)) (omega arith) (omega arith)
-rows_by first false false false false false false false false e1 e2 e3 e4 e5 e6 e7 e8 sequence is = absurd (cc)
-
-row_of : (first : ℕ) (sequence : Sequence) → sequence_of first ≡ Some sequence → IsRow first sequence
-unfolding sequence_of
-row_of first sequence is =
-    rows_by first (is_within 0xc2 0xdf first) (first == 0xe0) (is_within 0xe1 0xec first) (first == 0xed) (is_within 0xee 0xef first) (first == 0xf0) (is_within 0xf1 0xf3 first) (first == 0xf4) refl refl refl refl refl refl refl refl sequence is
+lead_of : (first : ℕ) (sequence : Sequence) → sequence_of first ≡ Some sequence → IsLead first sequence
+lead_of first sequence is = lead_by first sequence (row_of first sequence is)
 
 -- a byte that leads no sequence
 no_lead : (byte : ℕ) (bytes : List ℕ) (sequence : Option Sequence) → sequence_of byte ≡ sequence → byte < 0xc0 → continued_len (byte ∷ bytes) sequence ≡ 0
 no_lead byte bytes None is below = refl
-no_lead byte bytes (Some sequence) is below = absurd (omega (arith, (row_of byte sequence is).lead))
+no_lead byte bytes (Some sequence) is below = absurd (omega (arith, (lead_of byte sequence is).lead))
 
 character_of : (bytes : List ℕ) (control : Bool) → (if control then 0 else sequence_len bytes) ≡ 0 ⊎ ((if control then 0 else sequence_len bytes) ≡ sequence_len bytes)
 character_of bytes true = inl refl
 character_of bytes false = inr refl
 
-none_behind : (byte : ℕ) (bytes : List ℕ) → byte < 0xc0 → character_len (byte ∷ bytes) ≡ 0
+pub none_behind : (byte : ℕ) (bytes : List ℕ) → byte < 0xc0 → character_len (byte ∷ bytes) ≡ 0
 unfolding character_len sequence_len
 none_behind byte bytes below =
     let none = no_lead byte bytes (sequence_of byte) refl below in
@@ -104,7 +77,7 @@ no_tails zero = tt
 no_tails (suc pending) = tt
 
 -- the bytes behind the first of a sequence
-tails_by : (byte second : ℕ) (pending : ℕ) (others : List ℕ) (sequence : Sequence) → IsRow byte sequence → sequence.len ≡ suc (suc pending)
+tails_by : (byte second : ℕ) (pending : ℕ) (others : List ℕ) (sequence : Sequence) → IsLead byte sequence → sequence.len ≡ suc (suc pending)
     → is_continued sequence (byte ∷ second ∷ others) ≡ true → AreTails (suc pending) (second ∷ others)
 tails_by byte second pending others sequence row long continued =
     let parts = both (nat_le sequence.len (length (byte ∷ second ∷ others)) && is_within sequence.low sequence.high second)
@@ -123,7 +96,7 @@ tails_from byte pending [] (Some sequence) is len = no_tails pending
 tails_from byte zero (second ∷ others) (Some sequence) is len = tt
 tails_from byte (suc pending) (second ∷ others) (Some sequence) is len =
     let parts = continued_by sequence (is_continued sequence (byte ∷ second ∷ others)) (suc pending) len in
-    tails_by byte second pending others sequence (row_of byte sequence is) parts.1 parts.0
+    tails_by byte second pending others sequence (lead_of byte sequence is) parts.1 parts.0
 
 sequence_by : (bytes : List ℕ) (control : Bool) (len : ℕ) → (if control then 0 else sequence_len bytes) ≡ suc len → sequence_len bytes ≡ suc len
 sequence_by bytes true len is = absurd (omega arith)

@@ -1,5 +1,5 @@
 -- Bytes and units of UTF-16 that don't stand as characters in a printed text, and those that do.
-use Rattle.std.specs.Prelude.{ℕ, ◌/◌, ◌%◌, Bool, ◌&&◌, ◌||◌, ◌==◌, nat_le, nat_lt, if◌then◌else◌, List, [], ◌∷◌, encode_utf8}
+use Rattle.std.specs.Prelude.{ℕ, ◌/◌, ◌%◌, Bool, not, ◌&&◌, ◌||◌, ◌==◌, nat_le, nat_lt, if◌then◌else◌, List, [], ◌∷◌, encode_utf8}
 use Rattle.std.specs.Char.Utf16.{is_high_surrogate, is_low_surrogate}
 use Rattle.hex.specs.Hex.{encode_lower}
 
@@ -10,6 +10,10 @@ is_marked code = code == 39 || code == 92
 -- from the space to the tilde
 abbrev pub is_printable : ℕ → Bool
 is_printable code = nat_le 0x20 code && nat_le code 0x7e
+
+-- printable without a backslash
+abbrev pub is_plain : ℕ → Bool
+is_plain code = is_printable code && not (is_marked code)
 
 -- a printable character: itself, with a backslash before an apostrophe or a backslash
 abbrev pub printed : ℕ → List ℕ

@@ -1,3 +1,4 @@
+pub mod Characters
 pub mod Content
 pub mod Escape
 pub mod Layout

@@ -16,7 +16,7 @@ pub use fault::RecordFault;
 pub use fields::{Fields, read_types, records_both_ways};
 pub use serial::{body_len, is_unused, value_in};
 pub use text::value_text;
-pub use utf8::each_byte_is_printed_by_its_place;
+pub use utf8::{each_byte_is_printed_by_its_place, sequences_are_characters};
 pub use value::Value;
 pub use values::Values;
 

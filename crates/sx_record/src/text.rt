@@ -44,7 +44,7 @@ pub fn value_text(
 fn quoted(alloc: Global, bytes: &[u8], encoding: Encoding) -> Result<Vec<u8>, AllocError>
     ensures { IfOk result (λ written. written.items ≡ quoted encoding bytes.now) }
 {
-    let mut text = Vec::new(alloc);
+    let mut text = Vec::with_capacity(alloc, bytes.len() + 2)?;
     text.push(b'\'')?;
     match encoding {
         Encoding::Utf8 => push_utf8(&mut text, bytes)?,

@@ -1,6 +1,8 @@
 //! Texts in UTF-8 as they are printed.
-ghost use Rattle.std.specs.Prelude.{◌≡◌, ℕ, List, ◌++◌, ◌<◌, ◌≤◌, length, slice_index, IfOk, IfSome, OnOk};
+ghost use Rattle.std.specs.Prelude.{◌≡◌, ◌↔◌, ℕ, List, ◌++◌, ◌<◌, ◌≤◌, length, take, drop, take_while, slice_index, IfOk, IfSome, OnOk};
 ghost use Rattle.std.specs.List.{list_all};
+ghost use Rattle.sx_record.specs.Escape.{is_plain};
+ghost use Rattle.sx_record.specs.Characters.{BeginsWithCharacter};
 ghost use Rattle.sx_record.specs.Places.{IsPrinted};
 ghost use Rattle.sx_record.specs.Utf8.{is_within, is_continued, sequence_of, sequence_len, character_len, utf8_text};
 
@@ -37,21 +39,57 @@ pub fn each_byte_is_printed_by_its_place()
     ensures { (bytes : List ℕ) → IsPrinted bytes (utf8_text bytes) }
 {}
 
-/// Appends the character from U+00A0 up at the front, or else the first byte, and answers the bytes behind it.
-#[tactic(auto, using(crate::proofs::Printing::character_printed, crate::proofs::Printing::byte_printed))]
+/// The table gives a length exactly where bytes begin with the UTF-8 of a character from U+00A0 up, which is as long.
+/// This is a law of the definitions; the function has no code.
+pub fn sequences_are_characters()
+    ensures { (bytes : List ℕ) (len : ℕ) → ((0 < len) × (character_len bytes ≡ len)) ↔ BeginsWithCharacter bytes len }
+{}
+
+/// Appends the bytes at the front that stand as they are, or else what stands for the first one, and answers the bytes
+/// behind.
+#[tactic(auto, using(crate::proofs::Printing::standing_printed, crate::proofs::Printing::byte_printed))]
 fn push_first<'a>(text: &mut Vec<u8>, bytes: &'a [u8]) -> Result<&'a [u8], AllocError>
     requires { 0 < length bytes.now }
     ensures same { IfOk result (λ rest. text.new.items ++ utf8_text rest.now ≡ text.old.items ++ utf8_text bytes.now) }
     ensures shorter { IfOk result (λ rest. length rest.now < length bytes.now) }
 {
-    let len = character_len(bytes);
+    let len = standing_len(bytes);
     if len == 0 {
         push_byte(text, bytes[0])?;
         return Ok(&bytes[1..]);
     }
-    let (character, rest) = bytes.split_at(len);
-    text.extend_from_slice(character)?;
+    let (standing, rest) = bytes.split_at(len);
+    text.extend_from_slice(standing)?;
     Ok(rest)
+}
+
+/// How many bytes at the front stand as they are: as many plain ones as there are, or else those of a character.
+#[tactic(auto, using(crate::proofs::Printing::plain_first, crate::proofs::Printing::character_first))]
+fn standing_len(bytes: &[u8]) -> usize
+    ensures stands { utf8_text bytes.now ≡ take result bytes.now ++ utf8_text (drop result bytes.now) }
+    ensures within { result ≤ length bytes.now }
+    ensures none { result ≡ 0 → character_len bytes.now ≡ 0 }
+{
+    let plain = plain_len(bytes);
+    if plain > 0 {
+        return plain;
+    }
+    character_len(bytes)
+}
+
+/// How many bytes at the front are printable and need no backslash.
+fn plain_len(bytes: &[u8]) -> usize
+    ensures value { result ≡ length (take_while is_plain bytes.now) }
+    ensures within { result ≤ length bytes.now }
+{
+    bytes.iter().take_while(|byte| is_plain(**byte)).count()
+}
+
+/// Whether the byte is from the space to the tilde, but no apostrophe and no backslash.
+fn is_plain(byte: u8) -> bool
+    ensures { result ≡ is_plain byte }
+{
+    b' ' <= byte && byte <= b'~' && byte != b'\'' && byte != b'\\'
 }
 
 /// The length of the well-formed sequence of a character from U+00A0 up at the front, 0 where there is none.
