@@ -32,19 +32,6 @@ pub fn push_utf8(text: &mut Vec<u8>, bytes: &[u8]) -> Result<(), AllocError>
     Ok(())
 }
 
-/// A text is printed by a piece for each byte: the byte itself where it is part of a character from U+00A0 up, wherever
-/// that begins, and else what stands for a single byte. This is a law of the definitions; the function has no code.
-#[tactic(auto, using(crate::proofs::Places::text_printed))]
-pub fn each_byte_is_printed_by_its_place()
-    ensures { (bytes : List ℕ) → IsPrinted bytes (utf8_text bytes) }
-{}
-
-/// The table gives a length exactly where bytes begin with the UTF-8 of a character from U+00A0 up, which is as long.
-/// This is a law of the definitions; the function has no code.
-pub fn sequences_are_characters()
-    ensures { (bytes : List ℕ) (len : ℕ) → ((0 < len) × (character_len bytes ≡ len)) ↔ BeginsWithCharacter bytes len }
-{}
-
 /// Appends the bytes at the front that stand as they are, or else what stands for the first one, and answers the bytes
 /// behind.
 #[tactic(auto, using(crate::proofs::Printing::standing_printed, crate::proofs::Printing::byte_printed))]
@@ -156,3 +143,16 @@ fn are_later(bytes: &[u8]) -> bool
 {
     bytes.iter().all(|byte| 0x80 <= *byte && *byte <= 0xbf)
 }
+
+/// A text is printed by a piece for each byte: the byte itself where it is part of a character from U+00A0 up, wherever
+/// that begins, and else what stands for a single byte. This is a law of the definitions; the function has no code.
+#[tactic(auto, using(crate::proofs::Places::text_printed))]
+pub fn each_byte_is_printed_by_its_place()
+    ensures { (bytes : List ℕ) → IsPrinted bytes (utf8_text bytes) }
+{}
+
+/// The table gives a length exactly where bytes begin with the UTF-8 of a character from U+00A0 up, which is as long.
+/// This is a law of the definitions; the function has no code.
+pub fn sequences_are_characters()
+    ensures { (bytes : List ℕ) (len : ℕ) → ((0 < len) × (character_len bytes ≡ len)) ↔ BeginsWithCharacter bytes len }
+{}
