@@ -1,8 +1,6 @@
 //! Bytes and units of UTF-16 on their own in a printed text.
 ghost use Rattle.std.specs.Prelude.{◌≡◌, ◌++◌, OnOk, encode_utf8};
 ghost use Rattle.std.specs.Char.{IsScalar};
-ghost use Rattle.hex.specs.Hex.{encode_lower};
-ghost use Rattle.std.specs.Prelude.{[], ◌∷◌};
 ghost use Rattle.sx_record.specs.Escape.{byte_text, escaped_byte, escaped_unit, unit_text};
 
 use std::alloc::AllocError;

@@ -1,5 +1,5 @@
 //! Serial types of columns.
-ghost use Rattle.std.specs.Prelude.{◌≡◌, ◌+◌, ◌*◌, ◌^◌, ◌<◌, ◌≤◌, length};
+ghost use Rattle.std.specs.Prelude.{◌≡◌, ◌*◌, ◌^◌, ◌<◌, ◌≤◌, length};
 ghost use Rattle.sx_record.specs.Content.{content_of};
 ghost use Rattle.sx_record.specs.SerialTypes.{body_len, is_unused, signed, integer_of, content_in};
 

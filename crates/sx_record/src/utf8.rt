@@ -1,5 +1,5 @@
 //! Texts in UTF-8 as they are printed.
-ghost use Rattle.std.specs.Prelude.{◌≡◌, ◌↔◌, ℕ, List, ◌++◌, ◌<◌, ◌≤◌, length, take, drop, take_while, slice_index, IfOk, IfSome, OnOk};
+ghost use Rattle.std.specs.Prelude.{◌≡◌, ◌↔◌, ℕ, List, ◌++◌, ◌<◌, ◌≤◌, length, take, drop, take_while, IfOk, IfSome, OnOk};
 ghost use Rattle.std.specs.List.{list_all};
 ghost use Rattle.sx_record.specs.Escape.{is_plain};
 ghost use Rattle.sx_record.specs.Characters.{BeginsWithCharacter};
