@@ -13,9 +13,9 @@ use sx_cell::{Kind, read_cell};
 /// Where the cells of these tests begin.
 const AT: u32 = 12;
 
-/// A page of zeros with a cell of a table: the length of its payload, the rowid 1, the local part of so many bytes 0x55
-/// and the number of an overflow page.
-fn leaf(rt: &impl Abort, payload: &[u8], local: usize, overflow: u8) -> [u8; 512] {
+/// A page of zeros with a cell of a table: the length of its payload, the rowid 1, the local part of so many bytes 0x55,
+/// and page 3 as its first overflow page.
+fn leaf(rt: &impl Abort, payload: &[u8], local: usize) -> [u8; 512] {
     let mut page = [0; 512];
     let front = 12 + payload.len();
     assert!(rt; payload.len() <= 9 && local <= 477);
@@ -24,25 +24,30 @@ fn leaf(rt: &impl Abort, payload: &[u8], local: usize, overflow: u8) -> [u8; 512
     for place in front + 1..front + 1 + local {
         page[place] = 0x55;
     }
-    page[front + 1 + local + 3] = overflow;
+    page[front + 1 + local + 3] = 3;
     page
 }
 
-/// An overflow page that is full of one byte.
-fn overflow_page(next: u8, byte: u8) -> [u8; 512] {
+/// An overflow page that is full of one byte, with its link.
+fn overflow_page(link: Option<u8>, byte: u8) -> [u8; 512] {
     let mut page = [byte; 512];
-    page[..4].copy_from_slice(&[0, 0, 0, next]);
+    page[..4].copy_from_slice(&[0, 0, 0, link.unwrap_or(0)]);
     page
+}
+
+/// The sheet of a page, empty where it has no view.
+fn sheet(page: &[u8; 512], link: Option<u8>) -> &[u8] {
+    if link.is_some() { page } else { &page[..0] }
 }
 
 /// The lengths of the pieces of the cell on page 2, and whether a short chain is answered after them, twice.
-fn pieces(
+fn pieces_in(
     rt: &impl Abort,
     alloc: Global,
     sheets: &[&[u8]],
     kind: Kind,
 ) -> Result<(Vec<usize>, bool), Fail> {
-    assert!(rt; 2 <= sheets.len() && sheets.len() < 100);
+    assert!(rt; sheets.len() == 5);
     let page = sheets[1];
     assert!(rt; page.len() == 512);
     let pages = Sheets::new(512, sheets);
@@ -65,14 +70,38 @@ fn pieces(
     Err(Fail::from("too many pieces"))
 }
 
-/// The bytes of the payload of the cell on page 2.
-fn gathered(
+/// The same where page 2 is `page` and pages 3 to 5 have these links.
+fn pieces(
+    rt: &impl Abort,
+    alloc: Global,
+    page: [u8; 512],
+    kind: Kind,
+    links: [Option<u8>; 3],
+) -> Result<(Vec<usize>, bool), Fail> {
+    let [third, fourth, fifth] = links;
+    let pages = [
+        overflow_page(third, 0x33),
+        overflow_page(fourth, 0x44),
+        overflow_page(fifth, 0x66),
+    ];
+    let sheets = [
+        sheet(&page, None),
+        sheet(&page, Some(3)),
+        sheet(&pages[0], third),
+        sheet(&pages[1], fourth),
+        sheet(&pages[2], fifth),
+    ];
+    pieces_in(rt, alloc, &sheets, kind)
+}
+
+/// What `gather` answers for the cell on page 2 after so many pieces were taken.
+fn gathered_in(
     rt: &impl Abort,
     alloc: Global,
     sheets: &[&[u8]],
     taken: u32,
 ) -> Result<Result<Vec<u8>, PayloadRefused>, Fail> {
-    assert!(rt; 2 <= sheets.len() && sheets.len() < 100);
+    assert!(rt; sheets.len() == 5);
     let page = sheets[1];
     assert!(rt; page.len() == 512);
     let pages = Sheets::new(512, sheets);
@@ -84,61 +113,47 @@ fn gathered(
     Ok(payload.gather(alloc))
 }
 
+/// The same where page 2 is `page` and pages 3 to 5 have these links.
+fn gathered(
+    rt: &impl Abort,
+    alloc: Global,
+    page: [u8; 512],
+    links: [Option<u8>; 3],
+    taken: u32,
+) -> Result<Result<Vec<u8>, PayloadRefused>, Fail> {
+    let [third, fourth, fifth] = links;
+    let pages = [
+        overflow_page(third, 0x33),
+        overflow_page(fourth, 0x44),
+        overflow_page(fifth, 0x66),
+    ];
+    let sheets = [
+        sheet(&page, None),
+        sheet(&page, Some(3)),
+        sheet(&pages[0], third),
+        sheet(&pages[1], fourth),
+        sheet(&pages[2], fifth),
+    ];
+    gathered_in(rt, alloc, &sheets, taken)
+}
+
 #[test]
 fn a_chain_is_followed_for_as_many_pages_as_are_needed(rt: HostRuntime) -> Result<(), Fail> {
-    let none: &[u8] = &[];
-    let page = leaf(&rt, &[0x8b, 0x61], 39, 3);
-    let to_4 = overflow_page(4, 0x33);
-    let to_5 = overflow_page(5, 0x44);
-    let last = overflow_page(0, 0x66);
-    let back = overflow_page(3, 0x44);
-    let past = overflow_page(9, 0x44);
-    for (sheets, lens, short) in [
-        (
-            vec![in rt.alloc(); none, &page, &to_4, &to_5, &last]?,
-            vec![in rt.alloc(); 39, 508, 508, 450]?,
-            false,
-        ),
-        (
-            vec![in rt.alloc(); none, &page, &to_4, &last, &last]?,
-            vec![in rt.alloc(); 39, 508, 508]?,
-            true,
-        ),
-        (
-            vec![in rt.alloc(); none, &page, &to_4, &to_4, none]?,
-            vec![in rt.alloc(); 39, 508, 508, 450]?,
-            false,
-        ),
-        (
-            vec![in rt.alloc(); none, &page, &to_4, &back, none]?,
-            vec![in rt.alloc(); 39, 508, 508, 450]?,
-            false,
-        ),
-        (
-            vec![in rt.alloc(); none, &page, &to_4, &past, &last]?,
-            vec![in rt.alloc(); 39, 508, 508]?,
-            true,
-        ),
-        (
-            vec![in rt.alloc(); none, &page, &to_4, none, &last]?,
-            vec![in rt.alloc(); 39, 508]?,
-            true,
-        ),
-        (
-            vec![in rt.alloc(); none, &page, &to_4, none, none]?,
-            vec![in rt.alloc(); 39]?,
-            true,
-        ),
-        (
-            vec![in rt.alloc(); none, &page]?,
-            vec![in rt.alloc(); 39]?,
-            true,
-        ),
+    let page = leaf(&rt, &[0x8b, 0x61], 39);
+    let whole = [39, 508, 508, 450];
+    for (links, count, short) in [
+        ([Some(4), Some(5), Some(0)], 4, false),
+        ([Some(4), Some(4), None], 4, false),
+        ([Some(4), Some(3), None], 4, false),
+        ([Some(4), Some(0), Some(0)], 3, true),
+        ([Some(4), Some(9), Some(0)], 3, true),
+        ([Some(4), None, Some(0)], 2, true),
+        ([Some(4), None, None], 1, true),
     ] {
-        let told = pieces(&rt, rt.alloc(), &sheets, Kind::TableLeaf)?;
+        let told = pieces(&rt, rt.alloc(), page, Kind::TableLeaf, links)?;
         assert!(rt;
-            told.0 == lens && told.1 == short,
-            "{lens:?} {short} but {told:?}"
+            told.0.as_slice() == &whole[..count] && told.1 == short,
+            "{links:?}: {told:?}"
         );
     }
     Ok(())
@@ -146,43 +161,29 @@ fn a_chain_is_followed_for_as_many_pages_as_are_needed(rt: HostRuntime) -> Resul
 
 #[test]
 fn a_payload_ends_with_its_cell_or_with_a_page(rt: HostRuntime) -> Result<(), Fail> {
-    let none: &[u8] = &[];
-    let to_4 = overflow_page(4, 0x33);
-    let last = overflow_page(0, 0x66);
-    let two_full_pages = leaf(&rt, &[0x88, 0x1f], 39, 3);
-    let one_byte_more = leaf(&rt, &[0x88, 0x20], 40, 3);
-    let all_local = leaf(&rt, &[0x83, 0x5d], 477, 0);
-    let empty = leaf(&rt, &[0x00], 0, 0);
-    for (page, kind, lens) in [
-        (
-            &two_full_pages,
-            Kind::TableLeaf,
-            vec![in rt.alloc(); 39, 508, 508]?,
-        ),
-        (
-            &one_byte_more,
-            Kind::TableLeaf,
-            vec![in rt.alloc(); 40, 508, 508]?,
-        ),
-        (&all_local, Kind::TableLeaf, vec![in rt.alloc(); 477]?),
-        (&empty, Kind::TableLeaf, vec![in rt.alloc()]?),
-        (&two_full_pages, Kind::TableInner, vec![in rt.alloc()]?),
+    for (payload, local, count, links) in [
+        ([0x88, 0x1f], 39, 3, [Some(4), Some(0), None]),
+        ([0x88, 0x20], 40, 3, [Some(4), Some(0), None]),
+        ([0x83, 0x5d], 477, 1, [None, None, None]),
+        ([0x80, 0x00], 0, 0, [None, None, None]),
     ] {
-        let sheets = vec![in rt.alloc(); none, page, &to_4, &last]?;
-        let told = pieces(&rt, rt.alloc(), &sheets, kind)?;
-        assert!(rt; told.0 == lens && !told.1, "{lens:?} but {told:?}");
+        let page = leaf(&rt, &payload, local);
+        let told = pieces(&rt, rt.alloc(), page, Kind::TableLeaf, links)?;
+        let whole = [local, 508, 508];
+        assert!(rt;
+            told.0.as_slice() == &whole[..count] && !told.1,
+            "{payload:?}: {told:?}"
+        );
     }
+    let page = leaf(&rt, &[0x88, 0x1f], 39);
+    let inner = pieces(&rt, rt.alloc(), page, Kind::TableInner, [None, None, None])?;
+    assert!(rt; inner.0.is_empty() && !inner.1);
     Ok(())
 }
 
 #[test]
 fn what_is_to_come_is_gathered(rt: HostRuntime) -> Result<(), Fail> {
-    let none: &[u8] = &[];
-    let page = leaf(&rt, &[0x8b, 0x61], 39, 3);
-    let to_4 = overflow_page(4, 0x33);
-    let to_5 = overflow_page(5, 0x44);
-    let last = overflow_page(0, 0x66);
-    let sheets = vec![in rt.alloc(); none, &page, &to_4, &to_5, &last]?;
+    let page = leaf(&rt, &[0x8b, 0x61], 39);
     let mut whole = vec![in rt.alloc(); 0x55u8; 39]?;
     for (byte, count) in [(0x33, 508), (0x44, 508), (0x66, 450)] {
         for _ in 0..count {
@@ -191,7 +192,9 @@ fn what_is_to_come_is_gathered(rt: HostRuntime) -> Result<(), Fail> {
     }
     assert!(rt; whole.len() == 1505);
     for (taken, from) in [(0, 0), (1, 39), (3, 1055), (4, 1505), (9, 1505)] {
-        let bytes = gathered(&rt, rt.alloc(), &sheets, taken)?.map_err(|_| "refused")?;
+        let bytes = gathered(&rt, rt.alloc(), page, [Some(4), Some(5), Some(0)], taken)?.map_err(
+            |_| "refused",
+        )?;
         assert!(rt; bytes.as_slice() == &whole[from..], "after {taken} pieces");
     }
     Ok(())
@@ -199,27 +202,24 @@ fn what_is_to_come_is_gathered(rt: HostRuntime) -> Result<(), Fail> {
 
 #[test]
 fn a_short_chain_is_refused(rt: HostRuntime) -> Result<(), Fail> {
-    let none: &[u8] = &[];
-    let page = leaf(&rt, &[0x8b, 0x61], 39, 3);
-    let greatest = leaf(&rt, &[0x87, 0xff, 0xff, 0xff, 0x7f], 39, 3);
-    let to_4 = overflow_page(4, 0x33);
-    let last = overflow_page(0, 0x66);
-    for sheets in [
-        vec![in rt.alloc(); none, &page, &to_4, &last, &last]?,
-        vec![in rt.alloc(); none, &page, &to_4]?,
-        vec![in rt.alloc(); none, &greatest, &to_4, &last, &last]?,
-    ] {
-        for taken in [0, 1, 9] {
-            let refused = gathered(&rt, rt.alloc(), &sheets, taken)?.err();
-            assert_eq!(rt;
-                refused,
-                Some(PayloadRefused::ShortChain),
-                "after {taken} pieces"
-            );
-        }
+    let page = leaf(&rt, &[0x8b, 0x61], 39);
+    let greatest = leaf(&rt, &[0x87, 0xff, 0xff, 0xff, 0x7f], 39);
+    for taken in [0, 1, 9] {
+        let cut = gathered(&rt, rt.alloc(), page, [Some(4), Some(0), Some(0)], taken)?;
+        assert_eq!(rt; cut.err(), Some(PayloadRefused::ShortChain));
+        let few = gathered(&rt, rt.alloc(), page, [Some(4), None, None], taken)?;
+        assert_eq!(rt; few.err(), Some(PayloadRefused::ShortChain));
+        let claimed = gathered(
+            &rt,
+            rt.alloc(),
+            greatest,
+            [Some(4), Some(5), Some(3)],
+            taken,
+        )?;
+        assert_eq!(rt; claimed.err(), Some(PayloadRefused::ShortChain));
     }
-    let sheets = vec![in rt.alloc(); none, &greatest, &to_4, &last, &last]?;
-    let told = pieces(&rt, rt.alloc(), &sheets, Kind::TableLeaf)?;
-    assert!(rt; told.0 == vec![in rt.alloc(); 39]? && told.1);
+    let links = [Some(4), Some(5), Some(3)];
+    let told = pieces(&rt, rt.alloc(), greatest, Kind::TableLeaf, links)?;
+    assert!(rt; told.0.as_slice() == [39].as_slice() && told.1);
     Ok(())
 }
