@@ -201,3 +201,19 @@ payload_is_whole size view page usable cell bytes short payload =
     let found : (length payload.pages == need_of usable left) ≡ false = rw (← same) short in
     let never : true ≡ false = sym is ∙ found in
     cc
+
+bodies_few : (usable left : ℕ) (pages : List (List ℕ)) → length (concat (bodies_of usable left pages)) ≤ left
+unfolding bodies_of
+bodies_few usable left [] = omega arith
+bodies_few usable left (page ∷ pages) =
+    let rest = bodies_few usable (left - (usable - 4)) pages in
+    omega (arith, rest, length-take left (body_of usable page), length-take (usable - 4) (drop 4 page), length-append (take left (body_of usable page)) (concat (bodies_of usable (left - (usable - 4)) pages)))
+
+-- no more bytes come than the local part has and are left
+pub few_to_come : (size : ℕ) (view : ℕ → Option (List ℕ)) (usable : ℕ) (first : List (List ℕ)) (number left : ℕ)
+    → length (concat (to_come size view usable first number left).pieces) ≤ length (concat first) + left
+unfolding to_come
+few_to_come size view usable first number left =
+    let bodies = bodies_of usable left (overflow_pages size view usable number left) in
+    let joined : length (concat (first ++ bodies)) ≡ length (concat first ++ concat bodies) = ap length (concat-append first bodies) in
+    omega (arith, joined, length-append (concat first) (concat bodies), bodies_few usable left (overflow_pages size view usable number left))

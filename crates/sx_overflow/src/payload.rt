@@ -1,5 +1,7 @@
 //! The payload of a cell.
-ghost use Rattle.std.specs.Prelude.{◌≡◌, ◌≤◌, length};
+ghost use Rattle.std.specs.Prelude.{◌≡◌, ◌≤◌, length, option_copied};
+ghost use Rattle.std.specs.List.{concat};
+ghost use Rattle.std.specs.Option.{option_to_list};
 ghost use Rattle.sx_cell.specs.Cells.{WasRead};
 ghost use Rattle.sx_overflow.specs.Payloads.{payload_of, Gives, Gathers};
 ghost use Rattle.sx_overflow.specs.Sound.{IsWithin};
@@ -99,9 +101,10 @@ impl<'p, 'a, P: Pages<'a>> Payload<'p, 'a, P> {
         if !self.is_whole() {
             return Err(PayloadRefused::ShortChain);
         }
-        let mut bytes = Vec::with_capacity(alloc, self.len())?;
+        let most = len_of(self.local) + self.left as usize;
+        let mut bytes = Vec::with_capacity(alloc, most)?;
         while let Some(piece) = self.next_piece()? {
-            bytes.extend_from_slice(piece)?;
+            bytes.extend_from_slice(piece).unwrap();
         }
         Ok(bytes)
     }
@@ -114,10 +117,15 @@ impl<'p, 'a, P: Pages<'a>> Payload<'p, 'a, P> {
         is_within_held(self.pages, need, self.counted)
             && is_whole_chain(self.pages, self.link, need)
     }
+}
 
-    /// How many bytes are still to come of a whole payload.
-    fn len(&self) -> usize {
-        self.local.map_or(0, |piece| piece.len()) + self.left as usize
+/// The bytes of a piece, if there is one.
+fn len_of(piece: Option<&[u8]>) -> usize
+    ensures { result ≡ length (concat (option_to_list (option_copied piece.entry))) }
+{
+    match piece {
+        Some(bytes) => bytes.len(),
+        None => 0,
     }
 }
 
