@@ -1,10 +1,11 @@
 -- The header of a moment, and the layout of its pages by it ("The Database Header", "Pointer Map or Ptrmap Pages", "The
 -- Freelist").
-use Rattle.std.specs.Prelude.{ℕ, not, if◌then◌else◌, ◌==◌, false, List, Option, None, Some, Result, Ok, Err}
+use Rattle.std.specs.Prelude.{◌≡◌, ◌≤◌, ℕ, not, if◌then◌else◌, ◌==◌, false, List, Option, None, Some, Result, Ok, Err}
 use Rattle.sx_base.specs.declared.layout.Layout.{Layout}
 use Rattle.sx_base.specs.declared.moment.Moment.{Moment}
+use Rattle.sx_bytes.specs.PageSize.{IsPageSize}
 use Rattle.sx_bytes.specs.declared.encoding.Encoding.{Encoding}
-use Rattle.sx_header.specs.Header.{header_of, encoding_of}
+use Rattle.sx_header.specs.Header.{header_of, encoding_of, HasRanges}
 use Rattle.sx_header.specs.declared.header.Header.{Header}
 use Rattle.sx_header.specs.declared.header.HeaderFault.{HeaderFault}
 use Rattle.sx_moment.specs.Gathered.{Gathered, size_at}
@@ -52,3 +53,14 @@ encoding_by file None = encoding_of file.encoding
 
 abbrev pub encoding_at : Gathered → Moment → Encoding
 encoding_at case moment = encoding_by case.header (head_of case moment)
+
+-- an accepted header of pages of this size
+pub record FitsPages (page_size : ℕ) (header : Header) : Type 0 where
+  pub ranges : HasRanges header
+  pub same_size : header.page_size ≡ page_size
+
+-- the ranges of a layout's numbers
+pub record IsLayout (layout : Layout) : Type 0 where
+  pub size : IsPageSize layout.page_size
+  pub least : 480 ≤ layout.usable
+  pub within : layout.usable ≤ layout.page_size

@@ -4,7 +4,7 @@ ghost use Rattle.std.specs.List.{last_or};
 ghost use Rattle.std.specs.Option.{option_map};
 ghost use Rattle.sx_base.specs.Held.{held_pages, held_after};
 ghost use Rattle.sx_header.specs.Header.{HasRanges, header_of};
-ghost use Rattle.sx_moment.specs.Heads.{accepted, head_of, layout_of, encoding_at};
+ghost use Rattle.sx_moment.specs.Heads.{accepted, head_of, layout_of, encoding_at, FitsPages, IsLayout};
 ghost use Rattle.sx_moment.specs.Gathered.{gathered, page_count, size_at, limit_at, is_live, is_moment, moments_of};
 ghost use Rattle.sx_moment.specs.Views.{slot_pages, image_at, origin_of, view_of, source_of, bytes_of, place_of};
 ghost use Rattle.sx_moment.specs.Marks.{is_uncertain, uncertain_pages};
@@ -407,7 +407,8 @@ impl<'a> Case<'a> {
     #[tactic(auto, unfolding(crate::specs::Heads::head_of))]
     pub(crate) fn head(&self, moment: Moment) -> Option<Header>
         requires { IsTrue (is_moment self.now moment) }
-        ensures { result ≡ head_of self.now moment }
+        ensures head { result ≡ head_of self.now moment }
+        ensures ranges { IfSome result (FitsPages self.now.header.page_size) }
     {
         match self.page(moment, 1) {
             Some(page) => accepted(self.header().page_size, page),
@@ -418,7 +419,8 @@ impl<'a> Case<'a> {
     /// The layout of a moment's pages.
     pub(crate) fn layout(&self, moment: Moment) -> Layout
         requires { IsTrue (is_moment self.now moment) }
-        ensures { result ≡ layout_of self.now moment }
+        ensures layout { result ≡ layout_of self.now moment }
+        ensures ranges { IsLayout result }
     {
         let page_size = self.header().page_size;
         let pages = self.size(moment);
@@ -454,7 +456,8 @@ impl<'a> Case<'a> {
 
 // The header of a page 1, where it is accepted and of this page size.
 fn accepted(page_size: u32, page: &[u8]) -> Option<Header>
-    ensures { result ≡ accepted page_size (header_of page.now) }
+    ensures header { result ≡ accepted page_size (header_of page.now) }
+    ensures ranges { IfSome result (FitsPages page_size) }
 {
     match read_header(page) {
         Ok(header) if header.page_size == page_size => Some(header),

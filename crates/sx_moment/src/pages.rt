@@ -3,7 +3,7 @@ ghost use Rattle.std.specs.Prelude.{◌≡◌, Some, None, length, is_some, IfSo
 ghost use Rattle.sx_moment.specs.Gathered.{is_moment, size_at};
 ghost use Rattle.sx_moment.specs.Views.{source_of, view_of};
 ghost use Rattle.sx_moment.specs.Marks.{is_uncertain, uncertain_pages};
-ghost use Rattle.sx_moment.specs.Heads.{head_of, layout_of, encoding_at};
+ghost use Rattle.sx_moment.specs.Heads.{head_of, layout_of, encoding_at, IsLayout};
 
 use crate::case::Case;
 use crate::snapshot::Snapshot;
@@ -92,7 +92,8 @@ impl<'c, 'a> Snapshot<'c, 'a> {
     /// Where pages of their own kind stand, by the header of the moment. Without one the usable bytes are those of the
     /// file's header, and there are neither pointer maps nor a freelist.
     pub fn layout(&self) -> Layout
-        ensures { result ≡ layout_of self.now.case.now self.now.moment }
+        ensures layout { result ≡ layout_of self.now.case.now self.now.moment }
+        ensures ranges { IsLayout result }
     {
         self.case.layout(self.moment)
     }
