@@ -2,6 +2,8 @@ pub mod Texts
 pub mod Refusals
 pub mod Evidence
 pub mod Timeline
+pub mod NodeText
+pub mod NodeRest
 pub mod Page
 pub mod Moments
 pub mod Answers

@@ -7,6 +7,8 @@ mod examination;
 mod lines;
 mod loaded;
 mod moments;
+mod node_lines;
+mod node_text;
 mod page;
 mod prepared;
 mod refusals;
