@@ -1,17 +1,16 @@
 -- How an examination ends: with lines that were written, or with a refusal.
-use Rattle.std.proofs.Common.{◌≡◌, ◌⊎◌, ℕ, ◌≤◌, ◌<◌, Bool, IsTrue, List, [], ◌++◌, take, length, Option, None, Some, Result, Ok, Err, IfSome, IfErr, IsErrOf, OnOk, OnErr, ⊎_elim, arith, refl, sym, ◌∙◌, ap, subst}
+use Rattle.std.proofs.Common.{◌≡◌, ◌⊎◌, ℕ, Bool, List, [], length, Option, None, Some, Result, Ok, Err, IfSome, IfErr, IsErrOf, OnOk, OnErr, ⊎_elim, arith, refl, sym, ap, subst}
 use Rattle.std.proofs.Math.Seq.{take-nil}
-use Rattle.std.specs.Io.KnownBytes.{Appends, Keeps}
+use Rattle.std.specs.Io.KnownBytes.{Appends}
 use Rattle.sx_base.specs.Causes.{Rose}
 use Rattle.sx_base.specs.Files.{Files}
 use Rattle.sx_base.specs.declared.evidence.Part.{Part}
-use Rattle.sx_edge.specs.declared.whole_file.TheConstants.{GREATEST_FILE}
 use Rattle.sx_words.specs.Words.{Asked}
-use Rattle.sx_app.specs.Answers.{reply, reply_over, db_of, part_asked, answered, answer, Answers, Prints, AsksMoment, MayMeetWithin, MayPrepare, MayFollow, MayAnswer, IsUnwritten, HasNumber, Ends, IsAnswered, IsExamined}
+use Rattle.sx_app.specs.Answers.{reply, reply_over, db_of, part_asked, answered, answer, Answers, Prints, MayPrepare, MayFollow, MayAnswer, IsUnwritten, HasNumber, Ends, IsAnswered, IsExamined}
 use Rattle.sx_app.specs.Evidence.{◌>>=◌, Evidence, evidence_of, case_of, Fails, Has, HasUsed, HasCauses, MayMeet}
 use Rattle.sx_app.specs.Texts.{text_of, AppendsSome}
 use Rattle.sx_app.specs.declared.refused.Refused.{Refused}
-use Rattle.sx_app.specs.declared.refused.Refused.TheVariants.{Usage, NoDatabase, BadHeader, TooLarge, NoMoment, Unreadable, NoTable, NoByte, ReadFault, WriteFault, Memory, NoTree}
+use Rattle.sx_app.specs.declared.refused.Refused.TheVariants.{Usage, NoDatabase, BadHeader, TooLarge, NoMoment, Unreadable, NoByte, ReadFault, WriteFault, Memory}
 
 -- ---- over evidence that was opened: lines that were written
 
@@ -139,14 +138,15 @@ told_opened asked (Some files) evidence old new r opened answers =
     subst P (sym opened) answers
 
 module _ (asked : Asked) (contents : Option Files) (store_before store_now : ℕ) (absent : Bool) (given : ℕ) (taken_before taken_now : Option (List ℕ)) (sink_before sink_now : ℕ) where
-  pub examined_opened : (evidence : Evidence) (r : Result (Unit {0}) Refused) → IfSome contents (λ files. evidence_of files (db_of asked) ≡ Ok evidence)
-      → Has contents (db_of asked)
+  pub examined_opened : (db : List ℕ) (evidence : Evidence) (r : Result (Unit {0}) Refused) → db ≡ db_of asked
+      → IfSome contents (λ files. evidence_of files db ≡ Ok evidence)
+      → Has contents db
       → IsAnswered asked (reply_over asked (case_of evidence)) taken_before taken_now sink_before sink_now r
       → IsExamined (Some asked) contents store_before store_now absent given taken_before taken_now sink_before sink_now r
-  examined_opened evidence r opened has over = record {
-    told = told_opened asked contents evidence taken_before taken_now r opened over.told;
+  examined_opened db evidence r named opened has over = record {
+    told = told_opened asked contents evidence taken_before taken_now r (subst (λ (name : List ℕ). IfSome contents (λ files. evidence_of files name ≡ Ok evidence)) named opened) over.told;
     storeless = tt;
-    may = follow_may asked contents r has over.may;
+    may = follow_may asked contents r (subst (λ (name : List ℕ). Has contents name) named has) over.may;
     prints = over.prints;
     no_database = λ is. absurd (not_followed asked r NoDatabase over.may is);
     too_large = λ part is. absurd (not_followed asked r (TooLarge part) over.may is);
@@ -156,13 +156,13 @@ module _ (asked : Asked) (contents : Option Files) (store_before store_now : ℕ
 
 -- ---- the whole, where the evidence wasn't opened
 
-opening_may : (asked : Asked) (contents : Option Files) (refused : Refused) → MayMeet refused → HasUsed {T = Unit {0}} contents (db_of asked) (Err refused) → MayAnswer (Some asked) contents refused
-opening_may asked contents NoDatabase may used = tt
-opening_may asked contents (BadHeader fault) may used = tt
-opening_may asked contents (TooLarge part) may used = tt
-opening_may asked contents ReadFault may used = tt
-opening_may asked contents Memory may used = used
-opening_may asked contents _ may used = absurd may
+opening_may : (T : Type 0) (asked : Asked) (contents : Option Files) (refused : Refused) → MayMeet refused → HasUsed {T = T} contents (db_of asked) (Err refused) → MayAnswer (Some asked) contents refused
+opening_may T asked contents NoDatabase may used = tt
+opening_may T asked contents (BadHeader fault) may used = tt
+opening_may T asked contents (TooLarge part) may used = tt
+opening_may T asked contents ReadFault may used = tt
+opening_may T asked contents Memory may used = used
+opening_may T asked contents _ may used = absurd may
 
 -- none of them has a number
 no_number : (refused : Refused) → MayMeet refused → HasNumber refused → ⊥
@@ -196,20 +196,22 @@ told_refused asked (Some files) refused end old new told ends answers =
     (fails_opening refused (evidence_of files (db_of asked)) (λ evidence. reply_over asked (case_of evidence)) told) ends answers
 
 module _ {T : Type 0} (asked : Asked) (contents : Option Files) (store_before store_now : ℕ) (absent : Bool) (given : ℕ) (taken_before taken_now : Option (List ℕ)) (sink_before sink_now : ℕ) where
-  pub examined_refused : (part : Part) (refused end : Refused) → part ≡ part_asked (Some asked) → IfSome contents (λ files. Fails refused (evidence_of files (db_of asked)))
+  pub examined_refused : (db : List ℕ) (part : Part) (refused end : Refused) → db ≡ db_of asked → part ≡ part_asked (Some asked)
+      → IfSome contents (λ files. Fails refused (evidence_of files db))
       → HasCauses {T = T} store_before store_now absent given (Err refused)
       → MayMeet refused
-      → HasUsed {T = T} contents (db_of asked) (Err refused)
+      → HasUsed {T = T} contents db (Err refused)
       → Answers (answered part (Err refused)) taken_before taken_now (Err end)
       → Prints part taken_before taken_now end
       → Ends refused end
       → (end ≡ WriteFault → (refused ≡ WriteFault) ⊎ Rose sink_before sink_now)
       → IsExamined (Some asked) contents store_before store_now absent given taken_before taken_now sink_before sink_now (Err end)
-  examined_refused part refused end named told causes may used answers prints ends cause = record {
-    told = told_refused asked contents refused end taken_before taken_now told ends
+  examined_refused db part refused end same_db named told causes may used answers prints ends cause = record {
+    told = told_refused asked contents refused end taken_before taken_now
+        (subst (λ (name : List ℕ). IfSome contents (λ files. Fails refused (evidence_of files name))) same_db told) ends
         (subst (λ (p : Part). Answers (answered p (Err refused)) taken_before taken_now (Err end)) named answers);
     storeless = tt;
-    may = opening_end_may asked contents refused end ends may (opening_may asked contents refused may used);
+    may = opening_end_may asked contents refused end ends may (opening_may T asked contents refused may (subst (λ (name : List ℕ). HasUsed {T = T} contents name (Err refused)) same_db used));
     prints = subst (λ (p : Part). Prints p taken_before taken_now end) named prints;
     no_database = λ is. causes.no_database (ap Err (sym (met refused end NoDatabase ends (own NoDatabase is))));
     too_large = λ large is. causes.too_large large (ap Err (sym (met refused end (TooLarge large) ends (own (TooLarge large) is))));

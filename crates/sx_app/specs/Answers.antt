@@ -1,5 +1,5 @@
 -- The whole answer: a function of the words and of the files, and what an examination makes of it.
-use Rattle.std.specs.Prelude.{◌≡◌, ◌⊎◌, ℕ, ◌<◌, Bool, IsTrue, List, [], Option, None, Some, Result, Ok, Err, IfSome, IfErr, IsErrOf, ⊤}
+use Rattle.std.specs.Prelude.{◌≡◌, ◌⊎◌, ℕ, ◌<◌, Bool, IsTrue, List, Option, None, Some, Result, Ok, Err, IfSome, IfErr, IsErrOf, ⊤}
 use Rattle.std.specs.Io.KnownBytes.{Appends, Keeps}
 use Rattle.sx_base.specs.Causes.{Rose}
 use Rattle.sx_base.specs.Files.{Files}
@@ -9,13 +9,13 @@ use Rattle.sx_edge.specs.declared.whole_file.TheConstants.{GREATEST_FILE}
 use Rattle.sx_moment.specs.Gathered.{Gathered}
 use Rattle.sx_words.specs.Words.{Asked, Timeline, Page}
 use Rattle.sx_app.specs.Evidence.{◌>>=◌, evidence_of, case_of, Has}
-use Rattle.sx_app.specs.Moments.{moment_of, CanMiss}
-use Rattle.sx_app.specs.Page.{page_lines}
+use Rattle.sx_app.specs.Moments.{CanMiss}
+use Rattle.sx_app.specs.Page.{page_reply}
 use Rattle.sx_app.specs.Refusals.{refusal_text}
 use Rattle.sx_app.specs.Texts.{text_of, AppendsSome}
 use Rattle.sx_app.specs.Timeline.{timeline_lines}
 use Rattle.sx_app.specs.declared.refused.Refused.{Refused}
-use Rattle.sx_app.specs.declared.refused.Refused.TheVariants.{Usage, NoDatabase, BadHeader, TooLarge, NoMoment, Unreadable, NoTable, NoByte, ReadFault, WriteFault, Memory, NoTree}
+use Rattle.sx_app.specs.declared.refused.Refused.TheVariants.{Usage, NoDatabase, BadHeader, TooLarge, NoMoment, Unreadable, NoByte, ReadFault, WriteFault, Memory}
 
 -- the database that the words name
 abbrev pub db_of : Asked → List ℕ
@@ -25,7 +25,7 @@ db_of (Page db number at) = db
 -- the lines that the words ask for over a case, or why there are none: one case a command
 abbrev pub reply_over : Asked → Gathered → Result (List (List ℕ)) Refused
 reply_over (Timeline db) case = Ok (timeline_lines case)
-reply_over (Page db number at) case = moment_of case at >>= λ moment. Ok (page_lines case moment number)
+reply_over (Page db number at) case = page_reply case number at
 
 -- the lines that the words ask for over these files, or why there are none
 abbrev pub reply : Option Asked → Files → Result (List (List ℕ)) Refused

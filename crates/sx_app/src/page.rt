@@ -1,13 +1,18 @@
 //! The text of `page`.
-ghost use Rattle.std.specs.Prelude.{◌≡◌, OnOk, string_bytes};
-ghost use Rattle.sx_app.specs.Page.{mark_text, source_line, page_lines, page_rest};
+ghost use Rattle.std.specs.Prelude.{◌≡◌, IfErr, OnOk, string_bytes};
+ghost use Rattle.sx_app.specs.Evidence.{Gives};
+ghost use Rattle.sx_app.specs.Moments.{MayMiss};
+ghost use Rattle.sx_app.specs.Page.{mark_text, source_line, page_lines, page_reply, page_rest};
 ghost use Rattle.sx_app.specs.Texts.{ended};
 
 use crate::lines::Lines;
+use crate::moments::snapshot_asked;
+use crate::refused::Refused;
 use crate::texts::part_name;
 use std::alloc::AllocError;
 use sx_base::Place;
-use sx_moment::Snapshot;
+use sx_moment::{Case, Snapshot};
+use sx_words::When;
 
 /// The lines of `page` that are still to come.
 #[derive(Clone, Copy)]
@@ -39,6 +44,15 @@ impl PageLines {
             next: PageLine::First,
         }
     }
+}
+
+/// All lines over page `no` at the moment that is asked for.
+pub fn prepare_page(case: &Case<'_>, no: u32, at: When) -> Result<PageLines, Refused>
+    ensures told { Gives page_rest result (page_reply case.now no at) }
+    ensures may { IfErr result (MayMiss at) }
+{
+    let snapshot = snapshot_asked(case, at)?;
+    Ok(PageLines::new(&snapshot, no))
 }
 
 // The mark of a page that a checkpoint may have written over.

@@ -11,12 +11,12 @@ ghost use Rattle.sx_app.specs.Prepared.{prepared_lines};
 use crate::evidence::gather;
 use crate::lines::write_lines;
 use crate::loaded::Loaded;
-use crate::moments::snapshot_asked;
-use crate::page::PageLines;
+use crate::page::{PageLines, prepare_page};
 use crate::refused::Refused;
 use crate::timeline::TimelineLines;
 use std::alloc::Global;
 use sx_edge::Sink;
+use sx_moment::Case;
 use sx_words::Request;
 
 /// The lines of a command whose refusals are all behind it.
@@ -36,12 +36,20 @@ pub fn prepare<'a>(
     ensures may { IfErr result (MayPrepare (asked_by request.now)) }
 {
     let case = gather(alloc, loaded)?;
+    prepare_over(request, case)
+}
+
+// Decides whether a request has an answer over a case.
+fn prepare_over<'a>(request: &Request<'_>, case: Case<'a>) -> Result<Prepared<'a>, Refused>
+    ensures told { Gives prepared_lines result (reply_over (asked_by request.now) case.entry) }
+    ensures may { IfErr result (MayPrepare (asked_by request.now)) }
+{
     match request {
         Request::Timeline { .. } => Ok(Prepared::Timeline(TimelineLines::new(case))),
-        Request::Page { no, at, .. } => {
-            let snapshot = snapshot_asked(&case, *at)?;
-            Ok(Prepared::Page(PageLines::new(&snapshot, *no)))
-        }
+        Request::Page { no, at, .. } => match prepare_page(&case, *no, *at) {
+            Ok(lines) => Ok(Prepared::Page(lines)),
+            Err(refused) => Err(refused),
+        },
     }
 }
 

@@ -85,37 +85,47 @@ fn a_live_journal_gives_back_what_its_good_records_hold(rt: HostRuntime) -> Resu
 #[test]
 fn another_journal_gives_no_moment(rt: HostRuntime) -> Result<(), Fail> {
     let alloc = rt.alloc();
-    let database = second_row_deleted(alloc)?;
     let mut zeroed = journal(alloc)?;
     for at in 0..28 {
         if let Some(place) = zeroed.get_mut(at) {
             *place = 0;
         }
     }
+    check_no_moment(&rt, alloc, &zeroed, 1032, "zeroed records 1 good 0")?;
+    check_no_moment(&rt, alloc, &zeroed, 27, "short records 0 good 0")?;
+    check_no_moment(&rt, alloc, &zeroed, 0, "short records 0 good 0")?;
     let mut other_page_size = journal(alloc)?;
     if let Some(place) = other_page_size.get_mut(26) {
         *place = 4;
     }
-    for (bytes, len, line) in [
-        (&zeroed, 1032, "zeroed records 1 good 0"),
-        (&zeroed, 27, "short records 0 good 0"),
-        (&zeroed, 0, "short records 0 good 0"),
-        (&other_page_size, 3088, "alien records 0 good 0"),
-    ] {
-        let front = bytes.get(..len).unwrap_or(&[]);
-        let text = format!(in alloc; "{DATABASE}journal {line}\n0 pages 2 held 2 uncertain 0\n")?;
-        let named: [(&str, &[u8]); 2] = [("a.db", database.as_slice()), ("a.db-journal", front)];
-        check(&rt, alloc, &named, &["a.db", "timeline"], 0, text.as_str())?;
-        check(
-            &rt,
-            alloc,
-            &named,
-            &["a.db", "page", "no=2", "at=journal"],
-            5,
-            "refused: no such moment; the last is 0\n",
-        )?;
-    }
+    check_no_moment(&rt, alloc, &other_page_size, 3088, "alien records 0 good 0")?;
     Ok(())
+}
+
+// Whether the front of a journal of that length gives this line, and no moment.
+fn check_no_moment(
+    rt: &impl Abort,
+    alloc: Global,
+    bytes: &[u8],
+    len: usize,
+    line: &str,
+) -> Result<(), Fail> {
+    let database = second_row_deleted(alloc)?;
+    let front = bytes.get(..len).unwrap_or(&[]).to_vec(alloc)?;
+    let text = format!(in alloc; "{DATABASE}journal {line}\n0 pages 2 held 2 uncertain 0\n")?;
+    let named: [(&str, &[u8]); 2] = [
+        ("a.db", database.as_slice()),
+        ("a.db-journal", front.as_slice()),
+    ];
+    check(rt, alloc, &named, &["a.db", "timeline"], 0, text.as_str())?;
+    check(
+        rt,
+        alloc,
+        &named,
+        &["a.db", "page", "no=2", "at=journal"],
+        5,
+        "refused: no such moment; the last is 0\n",
+    )
 }
 
 #[test]

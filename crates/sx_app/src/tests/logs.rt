@@ -11,15 +11,26 @@ struct Frame<'p> {
 }
 
 // A log of pages of so many bytes, with the salts 1 and 2 and these frames. Big-endian sums where `big` says so.
-fn log(alloc: Global, big: bool, page_size: u32, frames: &[Frame<'_>]) -> Result<Vec<u8>, Fail> {
-    let magic = if big { 0x377f_0683_u32 } else { 0x377f_0682 };
-    let mut bytes = Vec::new(alloc);
-    for word in [magic, 3_007_000, page_size, 0, 1, 2] {
-        bytes.extend_from_slice(&word.to_be_bytes())?;
+fn log(
+    rt: &impl Abort,
+    alloc: Global,
+    big: bool,
+    page_size: u32,
+    frames: &[Frame<'_>],
+) -> Result<Vec<u8>, Fail> {
+    let mut head = [
+        55, 127, 6, 130, 0, 45, 226, 24, 0, 0, 0, 0, 0, 0, 0, 0, 0, 0, 0, 1, 0, 0, 0, 2,
+    ];
+    if big {
+        head[3] = 131;
     }
-    let mut carried = sums(big, (0, 0), bytes.as_slice());
+    head[8..12].copy_from_slice(&page_size.to_be_bytes());
+    let mut bytes = Vec::new(alloc);
+    bytes.extend_from_slice(&head)?;
+    let mut carried = sums(big, (0, 0), &head);
     put_sums(&mut bytes, carried)?;
     for frame in frames {
+        assert!(rt; frame.image.len() % 8 == 0);
         let mut front = [0; 8];
         front[..4].copy_from_slice(&frame.page.to_be_bytes());
         front[4..].copy_from_slice(&frame.size.to_be_bytes());
@@ -98,7 +109,7 @@ fn a_log_gives_its_line_and_its_commits(rt: HostRuntime) -> Result<(), Fail> {
         image: second(image),
     });
     for big in [false, true] {
-        let whole = log(alloc, big, 512, &frames)?;
+        let whole = log(&rt, alloc, big, 512, &frames)?;
         for (flipped, len, line, moments) in [
             (
                 NOWHERE,
@@ -227,7 +238,7 @@ fn moments_have_their_sizes_their_pages_and_their_marks(rt: HostRuntime) -> Resu
     ];
     for (database, frames, counts, moments) in cases {
         let frames = frames.map(|(page, size, image)| Frame { page, size, image });
-        let wal = log(alloc, false, 512, &frames)?;
+        let wal = log(&rt, alloc, false, 512, &frames)?;
         let line = format!(in alloc; "good frames {counts} foreign 0 broken 0")?;
         check_log(&rt, alloc, database, &wal, line.as_str(), moments)?;
     }
@@ -249,7 +260,7 @@ fn frames_without_a_commit_are_no_moment(rt: HostRuntime) -> Result<(), Fail> {
         size: 0,
         image,
     });
-    let wal = log(alloc, true, 512, &frames)?;
+    let wal = log(&rt, alloc, true, 512, &frames)?;
     let line = "good frames 3 committed 0 pending 3 foreign 0 broken 0";
     check_log(&rt, alloc, &plain, &wal, line, FILE)
 }
@@ -275,7 +286,7 @@ fn many_commits_have_a_line_each(rt: HostRuntime) -> Result<(), Fail> {
             image: &image,
         })?;
     }
-    let wal = log(alloc, true, 4_096, frames.as_slice())?;
+    let wal = log(&rt, alloc, true, 4_096, frames.as_slice())?;
     let named: [(&str, &[u8]); 2] = [("a.db", database.as_slice()), ("a.db-wal", wal.as_slice())];
     let (ended, out) = examined(&rt, alloc, &named, &[], AMPLE, &["a.db", "timeline"])?;
     assert_eq!(rt; ended, 0);
@@ -303,7 +314,7 @@ fn a_claimed_size_costs_nothing(rt: HostRuntime) -> Result<(), Fail> {
         image: &image,
     };
     let frames = vec![in alloc; frame; 1_000]?;
-    let wal = log(alloc, true, 512, frames.as_slice())?;
+    let wal = log(&rt, alloc, true, 512, frames.as_slice())?;
     let named: [(&str, &[u8]); 2] = [("a.db", database.as_slice()), ("a.db-wal", wal.as_slice())];
     let room = Sizes {
         room: 65_536,
@@ -327,7 +338,7 @@ fn a_page_is_found_at_a_moment(rt: HostRuntime) -> Result<(), Fail> {
         size: 2,
         image,
     });
-    let wal = log(alloc, false, 512, &frames)?;
+    let wal = log(&rt, alloc, false, 512, &frames)?;
     let named: [(&str, &[u8]); 2] = [("a.db", plain.as_slice()), ("a.db-wal", wal.as_slice())];
     for (at, end, text) in [
         ("at=0", 0, "page 2 from database offset 512 uncertain\n"),

@@ -9,6 +9,8 @@ use Rattle.sx_base.specs.declared.moment.Moment.{Moment}
 use Rattle.sx_base.specs.declared.moment.Moment.TheVariants.{Journal, File, Commit}
 use Rattle.sx_moment.proofs.Moments.{commit_listed}
 use Rattle.sx_moment.specs.Gathered.{Gathered, moments_of, is_moment, is_live}
+use Rattle.sx_words.specs.declared.request.When.TheVariants.{At}
+use Rattle.sx_app.specs.Moments.{CanMiss}
 use Rattle.sx_app.specs.Timeline.{moment_line, moment_lines_after, lines_from}
 use Rattle.sx_app.specs.declared.timeline.TimelineLine.{TimelineLine}
 use Rattle.sx_app.specs.declared.timeline.TimelineLine.TheVariants.{Moments}
@@ -47,13 +49,13 @@ commit_within live n i before moment is past few within found =
 
 each_listed : (live : Bool) (n i : ℕ) (moment : Moment) → slice_get (cond live (Journal ∷ []) [] ++ File ∷ map Commit (range_with_len 1 n)) i ≡ Some moment
     → IsTrue (is_listed live n moment)
-each_listed true n zero moment found = let same : Journal ≡ moment = cc in subst (λ (m : Moment). IsTrue (is_listed true n m)) same tt
-each_listed true n (suc zero) moment found = let same : File ≡ moment = cc in subst (λ (m : Moment). IsTrue (is_listed true n m)) same tt
+each_listed true n zero moment found = let same : Journal ≡ moment = cc in subst (λ (m : Moment). IsTrue (is_listed true n m)) same refl
+each_listed true n (suc zero) moment found = let same : File ≡ moment = cc in subst (λ (m : Moment). IsTrue (is_listed true n m)) same refl
 each_listed true n (suc (suc j)) moment found =
     let long = length-map-range_with_len Commit 1 n in
     let within = slice_get_within (Journal ∷ File ∷ map Commit (range_with_len 1 n)) (suc (suc j)) moment found in
     commit_within true n (suc (suc j)) 1 moment refl (omega arith) (omega (arith, long, within)) within found
-each_listed false n zero moment found = let same : File ≡ moment = cc in subst (λ (m : Moment). IsTrue (is_listed false n m)) same tt
+each_listed false n zero moment found = let same : File ≡ moment = cc in subst (λ (m : Moment). IsTrue (is_listed false n m)) same refl
 each_listed false n (suc j) moment found =
     let long = length-map-range_with_len Commit 1 n in
     let within = slice_get_within (File ∷ map Commit (range_with_len 1 n)) (suc j) moment found in
@@ -67,6 +69,12 @@ same_test case (Commit k) = refl
 -- a moment of the list is one of the case
 pub listed_is : (case : Gathered) (i : ℕ) (moment : Moment) → slice_get (moments_of case) i ≡ Some moment → IsTrue (is_moment case moment)
 listed_is case i moment listed = subst IsTrue (same_test case moment) (each_listed (is_live case.journal.state) (length case.wal.commits) i moment listed)
+
+-- a moment that isn't one of the case is the journal's, or a commit
+pub can_miss : (case : Gathered) (moment : Moment) → false ≡ is_moment case moment → CanMiss (At moment)
+can_miss case Journal none = tt
+can_miss case File none = cc
+can_miss case (Commit k) none = tt
 
 -- the last of a list stands in it
 last_there : (before : Option Moment) (xs : List Moment) (moment : Moment) → last_or before xs ≡ Some moment → (before ≡ Some moment) ⊎ ((i : ℕ) × (slice_get xs i ≡ Some moment))
