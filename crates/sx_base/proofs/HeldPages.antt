@@ -1,8 +1,8 @@
 -- The held pages of a snapshot, for those who walk over them and for those who list them.
-use Rattle.std.proofs.Common.{◌≡◌, ℕ, ◌+◌, ◌-◌, ◌<◌, ◌≤◌, Bool, true, false, List, [], ◌∷◌, ◌++◌, Option, Some, None, length, slice_index, is_some, filter, refl, sym, ap, ◌∙◌, arith}
+use Rattle.std.proofs.Common.{◌≡◌, ℕ, ◌+◌, ◌-◌, ◌<◌, ◌≤◌, Bool, true, false, List, [], ◌∷◌, ◌++◌, Option, Some, None, length, slice_index, is_some, filter, length-append, refl, sym, ap, ◌∙◌, arith}
 use Rattle.std.specs.List.{range_with_len}
 use Rattle.sx_base.specs.Held.{held_pages, held_after}
-use Rattle.sx_base.proofs.Ranges.{IsNext, filter_meets, find_next, find_none, kept_at, kept_few, kept_gap, kept_next, kept_place, kept_within, next_found, none_found}
+use Rattle.sx_base.proofs.Ranges.{IsNext, filter_meets, find_next, find_none, kept_at, kept_before, kept_few, kept_gap, kept_next, kept_place, kept_within, next_found, none_found}
 
 -- a page has a view
 abbrev pub has_view : (ℕ → Option (List ℕ)) → ℕ → Bool
@@ -86,3 +86,49 @@ walk_end size view at within found =
     ap (λ all. filter (has_view view) (range_with_len 1 all)) (sym whole)
     ∙ kept_gap (has_view view) 1 at (size - at)
     (λ k low high. none_held size view at found k (omega arith) (omega arith))
+
+-- the page that the walk comes to stands behind those that it has met
+pub walk_here : (size : ℕ) (view : ℕ → Option (List ℕ)) (at number : ℕ) → held_after size view at ≡ Some number
+    → (length (held_pages at view) < length (held_pages size view))
+    × (slice_index (held_pages size view) (length (held_pages at view)) ≡ number)
+unfolding held_pages
+walk_here size view at number found =
+    let next = next_held size view at number found in
+    let same : held_pages (number - 1) view ≡ held_pages at view = kept_before (has_view view) size at number next in
+    let place = held_place size view number next.low (omega (arith, next.high)) next.passes in
+    (rw (← same) place.0, rw (← same) place.1)
+
+-- what a loop over the held pages keeps: it stands at a page within the size, and has met as many as are held up to it
+pub record IsWalk (size : ℕ) (view : ℕ → Option (List ℕ)) (at count : ℕ) : Type 0 where
+  pub within : at ≤ size
+  pub met : count ≡ length (held_pages at view)
+
+pub walk_start : (size : ℕ) (view : ℕ → Option (List ℕ)) → IsWalk size view 0 0
+walk_start size view = record { within = omega arith; met = ap length (sym (walk_none view)) }
+
+pub walk_step : (size : ℕ) (view : ℕ → Option (List ℕ)) (at count number : ℕ) → IsWalk size view at count
+    → held_after size view at ≡ Some number → IsWalk size view number (count + 1)
+walk_step size view at count number walk found =
+    let next = next_held size view at number found in
+    let longer : length (held_pages number view) ≡ length (held_pages at view ++ number ∷ []) = ap length (walk_on size view at number found) in
+    record {
+      within = omega (arith, next.high);
+      met = omega (arith, walk.met, longer, length-append (held_pages at view) (number ∷ []));
+    }
+
+pub walk_falls : (size : ℕ) (view : ℕ → Option (List ℕ)) (at number : ℕ) → held_after size view at ≡ Some number
+    → size - number < size - at
+walk_falls size view at number found =
+    let next = next_held size view at number found in
+    omega (arith, next.above, next.high)
+
+-- the page that it comes to next stands at the place that it has counted to
+pub walk_meets : (size : ℕ) (view : ℕ → Option (List ℕ)) (at count number : ℕ) → IsWalk size view at count
+    → held_after size view at ≡ Some number
+    → (count < length (held_pages size view)) × (slice_index (held_pages size view) count ≡ number)
+walk_meets size view at count number walk found = rw walk.met (walk_here size view at number found)
+
+-- where nothing comes next it has met all
+pub walk_all : (size : ℕ) (view : ℕ → Option (List ℕ)) (at count : ℕ) → IsWalk size view at count
+    → held_after size view at ≡ None → count ≡ length (held_pages size view)
+walk_all size view at count walk found = walk.met ∙ ap length (sym (walk_end size view at walk.within found))

@@ -1,2 +1,3 @@
 pub mod HeldPages
 pub mod Ranges
+pub mod SheetViews

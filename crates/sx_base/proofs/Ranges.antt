@@ -246,18 +246,23 @@ find_none p first (suc n) after none =
     (find (nat_lt after) (filter p (range_with_len (first + 1) n)))
     (find_none p (first + 1) n after (λ k low high above. none k (omega arith) (omega arith) above))
 
--- the numbers from 1 up to one that passes are those up to a lower one, where none lies between, and that one
+-- what passes below the next is what passes up to the number that it is the next of
+pub kept_before : (p : ℕ → Bool) (n after number : ℕ) → IsNext p 1 n after number
+    → filter p (range_with_len 1 (number - 1)) ≡ filter p (range_with_len 1 after)
+kept_before p n after number next =
+    let above = next.above in
+    let gap : after + (number - 1 - after) ≡ number - 1 = omega arith in
+    ap (λ all. filter p (range_with_len 1 all)) (sym gap)
+    ∙ kept_gap p 1 after (number - 1 - after) (λ k low high. next.between k (omega arith) (omega arith) (omega arith))
+
+-- and with the next itself
 pub kept_next : (p : ℕ → Bool) (n after number : ℕ) → IsNext p 1 n after number
     → filter p (range_with_len 1 number) ≡ filter p (range_with_len 1 after) ++ number ∷ []
 kept_next p n after number next =
     let above = next.above in
     let one : number - 1 + suc 0 ≡ number = omega arith in
     let here : 1 + (number - 1) ≡ number = omega arith in
-    let gap : after + (number - 1 - after) ≡ number - 1 = omega arith in
-    let cut = kept_cut p 1 (number - 1) 0 (rw here next.passes) in
-    let below = kept_gap p 1 after (number - 1 - after) (λ k low high. next.between k (omega arith) (omega arith) (omega arith)) in
     ap (λ all. filter p (range_with_len 1 all)) (sym one)
-    ∙ cut
+    ∙ kept_cut p 1 (number - 1) 0 (rw here next.passes)
     ∙ ap (λ last. filter p (range_with_len 1 (number - 1)) ++ last ∷ []) here
-    ∙ ap (λ all. filter p (range_with_len 1 all) ++ number ∷ []) (sym gap)
-    ∙ ap (λ rest. rest ++ number ∷ []) below
+    ∙ ap (λ rest. rest ++ number ∷ []) (kept_before p n after number next)

@@ -4,3 +4,4 @@ pub mod Files
 pub mod Held
 pub mod Labels
 pub mod Maps
+pub mod Sheets

@@ -10,11 +10,16 @@ mod label;
 mod layout;
 mod moment;
 mod pages;
+mod sheets;
 mod steps;
 
 pub use evidence::{Failed, Part, Place, Span};
 pub use label::Label;
 pub use layout::Layout;
 pub use moment::{Class, Moment};
-pub use pages::{Pages, view_at};
+pub use pages::{PageViews, Pages, view_at};
+pub use sheets::Sheets;
 pub use steps::Steps;
+
+#[cfg(test)]
+mod tests;

@@ -1,1 +1,3 @@
+pub mod Decoding
 pub mod PageSize
+pub mod Varints

@@ -1,0 +1,4 @@
+pub mod Local
+pub mod Fields
+pub mod Reading
+pub mod Cells

@@ -1,0 +1,14 @@
+//! The cells of b-tree pages: where each part of one stands, and how much of its payload.
+#![tactic(auto)]
+
+mod cell;
+mod fields;
+mod local;
+mod reading;
+
+pub use cell::{Cell, CellFault, Kind};
+pub use local::local_len;
+pub use reading::{cells_both_ways, cells_lie_in_page, read_cell};
+
+#[cfg(test)]
+mod tests;

@@ -1,0 +1,71 @@
+-- What the log and the journal were read as fits their files.
+use Rattle.std.proofs.Common.{◌≡◌, ℕ, ◌+◌, ◌-◌, ◌*◌, ◌<◌, ◌≤◌, ◌^◌, List, Option, Some, None, length, arith, inl, inr, mul-le-mul_left}
+use Rattle.std.specs.Prelude.{slice_get, slice_index, slice_index_or, All}
+use Rattle.std.proofs.lemmas.Bool.{cases_lt}
+use Rattle.std.proofs.lemmas.Option.{slice_get-get_or}
+use Rattle.sx_header.specs.declared.header.Header.{Header}
+use Rattle.sx_header.specs.Header.{HasRanges}
+use Rattle.sx_wal.specs.Wal.{Wal, IsFrame, log_of, wal_of}
+use Rattle.sx_wal.specs.Frames.{frame_at}
+use Rattle.sx_wal.specs.declared.slot.Slot.{Slot}
+use Rattle.sx_journal.specs.Journal.{Journal, journal_of}
+use Rattle.sx_moment.specs.Gathered.{bytes_in, no_slot, no_entry}
+use Rattle.sx_moment.specs.Parts.{IsGathered, IsSmall, gathered_by}
+
+-- what the reader of logs says of each slot
+abbrev FrameLaw : Type 0
+FrameLaw = (page_size : ℕ) (bytes : List ℕ) (i : ℕ) (slot : Slot) → slice_get (log_of page_size bytes).slots i ≡ Some slot → IsFrame page_size bytes i slot
+
+-- what the reader of journals says of each record
+abbrev EntryLaw : Type 0
+EntryLaw = (bytes : List ℕ) (page_size : ℕ) → All (λ entry. entry.offset + page_size + 4 ≤ length bytes) (journal_of (Some bytes) page_size).entries
+
+slots_fit : (page_size : ℕ) (wal : Option (List ℕ)) → FrameLaw → (i : ℕ) → i < length (wal_of wal page_size).slots
+    → (slice_index_or (wal_of wal page_size).slots i no_slot).offset + page_size ≤ length (bytes_in wal)
+unfolding wal_of
+slots_fit page_size None law i below = absurd (omega arith)
+slots_fit page_size (Some bytes) law i below = (law page_size bytes i (slice_index_or (log_of page_size bytes).slots i no_slot) (slice_get-get_or (log_of page_size bytes).slots i no_slot below)).whole
+
+-- frames of at least 536 bytes are few
+few_frames : (n page_size long : ℕ) → 512 ≤ page_size → frame_at page_size n + 24 + page_size ≤ long → long < 2 ^ 32 → n < 2 ^ 31 - 1
+few_frames n page_size long least fits small =
+    let more : n * 536 ≤ n * (24 + page_size) = grind (arith, mul-le-mul_left) in
+    omega arith
+
+slots_few : (page_size : ℕ) (wal : Option (List ℕ)) → FrameLaw → 512 ≤ page_size → length (bytes_in wal) < 2 ^ 32 → length (wal_of wal page_size).slots < 2 ^ 31
+unfolding wal_of
+slots_few page_size None law least small = omega arith
+slots_few page_size (Some bytes) law least small =
+    elim (cases_lt 0 (length (log_of page_size bytes).slots)) [
+      | inl some ↦
+          let n = length (log_of page_size bytes).slots - 1 in
+          let slot = slice_index_or (log_of page_size bytes).slots n no_slot in
+          let frame = law page_size bytes n slot (slice_get-get_or (log_of page_size bytes).slots n no_slot (omega arith)) in
+          let fits : frame_at page_size n + 24 + page_size ≤ length bytes = omega (arith, frame.offset, frame.whole) in
+          omega (arith, few_frames n page_size (length bytes) least fits small)
+      | inr none ↦ omega arith
+    ]
+
+entries_fit : (page_size : ℕ) (journal : Option (List ℕ)) → EntryLaw → (i : ℕ) → i < length (journal_of journal page_size).entries
+    → (slice_index_or (journal_of journal page_size).entries i no_entry).offset + page_size ≤ length (bytes_in journal)
+unfolding journal_of
+entries_fit page_size None law i below = absurd (omega arith)
+entries_fit page_size (Some bytes) law i below = let fits = law bytes page_size i no_entry below in omega (arith, fits)
+
+-- evidence that was read is as it should be
+pub gathered_is : (header : Header) (database : List ℕ) (wal_bytes journal_bytes : Option (List ℕ)) (wal : Wal) (journal : Journal)
+    → ((page_size : ℕ) (bytes : List ℕ) (i : ℕ) (slot : Slot) → slice_get (log_of page_size bytes).slots i ≡ Some slot → IsFrame page_size bytes i slot)
+    → ((bytes : List ℕ) (page_size : ℕ) → All (λ entry. entry.offset + page_size + 4 ≤ length bytes) (journal_of (Some bytes) page_size).entries)
+    → HasRanges header → IsSmall database wal_bytes journal_bytes
+    → wal ≡ wal_of wal_bytes header.page_size → journal ≡ journal_of journal_bytes header.page_size → length wal.commits ≤ length wal.slots
+    → ((k : ℕ) → k < length wal.commits → slice_index wal.commits k < length wal.slots)
+    → IsGathered (gathered_by header database wal_bytes journal_bytes wal journal)
+gathered_is header database wal_bytes journal_bytes wal journal slot_law entry_law ranges small wal_is journal_is fewer commits_within = record {
+  ranges = ranges;
+  small = small;
+  slots = rw wal_is (slots_fit header.page_size wal_bytes slot_law);
+  entries = rw journal_is (entries_fit header.page_size journal_bytes entry_law);
+  few_slots = rw wal_is (slots_few header.page_size wal_bytes slot_law ranges.page_size.least small.wal_small);
+  few_commits = fewer;
+  commits = commits_within;
+}

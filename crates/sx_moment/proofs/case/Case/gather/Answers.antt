@@ -1,0 +1,26 @@
+use Rattle.std.proofs.Common.{ℕ, Option, None, Bool, cond, ap, ◌∙◌, subst}
+use Rattle.std.specs.Ordering.{nat_cmp}
+use Rattle.std.specs.BTreeMap.{get}
+use Rattle.sx_moment.specs.Gathered.{page_count}
+use Rattle.sx_moment.specs.Views.{lock_in}
+use Rattle.sx_moment.specs.Firsts.{Rises}
+use Rattle.sx_moment.specs.Parts.{IsGathered, is_past, is_marked}
+use Rattle.sx_moment.proofs.case.Case.gather.Goals as goal
+
+pub invariant_of-result : goal.invariant_of-result
+invariant_of-result c =
+    let past : ℕ → Bool = is_past (lock_in c.in_ok-sources.sources) (page_count c.in_ok-sources.sources) in
+    record {
+      gathered = subst IsGathered c.sources.view_is c.sources.invariant;
+      slots_are = c.in_ok-frames.ensures;
+      past_rise = subst (Rises 1) c.past.view_is c.past.invariant;
+      past_are = λ number. c.in_ok-past.ensures number ∙ ap (λ (o : Option ℕ). cond (past number) o None) (c.in_ok-slots.ensures number);
+      marks_rise = subst (Rises 1) c.marks.view_is c.marks.invariant;
+      marks_are = λ number.
+          c.in_ok-marks.ensures number
+          ∙ ap (λ b. cond b (get nat_cmp c.in_ok-slots.slots number) None) (c.in_ok-same.ensures number)
+          ∙ ap (λ (o : Option ℕ). cond (is_marked c.in_ok-sources.sources number) o None) (c.in_ok-slots.ensures number);
+      past_records_rise = subst (Rises 1) c.past_records.view_is c.past_records.invariant;
+      past_records_are = λ number. c.in_ok-past_records.ensures number ∙ ap (λ (o : Option ℕ). cond (past number) o None) (c.in_ok-records.ensures number);
+      records_are = c.in_ok-records.ensures;
+    }

@@ -1,0 +1,7 @@
+use Rattle.std.proofs.Common.{◌≡◌, ◌++◌}
+use Rattle.sx_moment.specs.Parts.{is_past, images_of}
+use Rattle.sx_moment.proofs.gathering.past_images.Given as goal
+
+-- what is kept of the entries so far, and of those to come
+abbrev pub invariant-loop-page : goal.invariant-loop-page
+invariant-loop-page l = l.items.items ++ images_of (is_past l.lock l.count) l.page-iterator ≡ images_of (is_past l.lock l.count) l.found.entries

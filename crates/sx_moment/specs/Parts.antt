@@ -1,0 +1,128 @@
+-- What a case keeps beside the evidence, so that a question takes no search of it.
+use Rattle.std.specs.Prelude.{◌≡◌, ℕ, ◌+◌, ◌^◌, ◌<◌, ◌≤◌, ◌==◌, Bool, not, ◌&&◌, nat_lt, nat_le, min, if◌then◌else◌, slice_index, List, [], ◌∷◌, ◌++◌, length, Option, None, Some, is_some, is_none}
+use Rattle.std.specs.List.{list_any, range_with_len}
+use Rattle.sx_chain.specs.Newest.{has_number}
+use Rattle.sx_base.specs.declared.moment.Moment.{Moment}
+use Rattle.sx_base.specs.declared.moment.Moment.TheVariants.{Journal as JournalMoment}
+use Rattle.sx_header.specs.Header.{HasRanges}
+use Rattle.sx_header.specs.declared.header.Header.{Header}
+use Rattle.sx_wal.specs.Wal.{Wal}
+use Rattle.sx_journal.specs.Journal.{Journal}
+use Rattle.sx_moment.specs.Gathered.{Gathered, bytes_in, slot_at, entry_at, page_count, size_at, limit_at}
+use Rattle.sx_moment.specs.Views.{first_place, slot_pages, is_good_record, lock_in, image_at}
+use Rattle.sx_moment.specs.Marks.{is_same}
+use Rattle.sx_moment.specs.Firsts.{Rises, first_in, file_pages}
+use Rattle.sx_moment.specs.declared.origin.Origin.{Origin}
+use Rattle.sx_moment.specs.declared.origin.Origin.TheVariants.{Database, Slot, Record}
+use Rattle.sx_moment.specs.declared.first_image.FirstImage.{FirstImage}
+
+-- each file has fewer than 2^32 bytes
+pub record IsSmall (database : List ℕ) (wal journal : Option (List ℕ)) : Type 0 where
+  pub database_small : length database < 2 ^ 32
+  pub wal_small : length (bytes_in wal) < 2 ^ 32
+  pub journal_small : length (bytes_in journal) < 2 ^ 32
+
+-- the evidence is what the bytes were read as: its numbers are in range, and each image lies in its file
+pub record IsGathered (case : Gathered) : Type 0 where
+  pub ranges : HasRanges case.header
+  pub slots : (i : ℕ) → i < length case.wal.slots → (slot_at case i).offset + case.header.page_size ≤ length (bytes_in case.wal_bytes)
+  pub entries : (i : ℕ) → i < length case.journal.entries → (entry_at case i).offset + case.header.page_size ≤ length (bytes_in case.journal_bytes)
+  pub small : IsSmall case.database case.wal_bytes case.journal_bytes
+  pub few_slots : length case.wal.slots < 2 ^ 31
+  pub few_commits : length case.wal.commits ≤ length case.wal.slots
+  pub commits : (k : ℕ) → k < length case.wal.commits → slice_index case.wal.commits k < length case.wal.slots
+
+-- the evidence of these files, read as these
+abbrev pub gathered_by : Header → List ℕ → Option (List ℕ) → Option (List ℕ) → Wal → Journal → Gathered
+gathered_by header database wal_bytes journal_bytes wal journal = record {
+  header = header;
+  database = database;
+  wal_bytes = wal_bytes;
+  journal_bytes = journal_bytes;
+  wal = wal;
+  journal = journal;
+}
+
+-- a page past the end of the file that can have a view
+abbrev pub is_past : ℕ → ℕ → ℕ → Bool
+is_past lock count number = nat_lt count number && not (number == lock)
+
+-- a whole page of the file that can have a view
+abbrev pub is_in_file : ℕ → ℕ → ℕ → Bool
+is_in_file lock count number = nat_lt 0 number && nat_le number count && not (number == lock)
+
+-- the first slot of a page, whatever its class
+abbrev pub first_slot : Gathered → ℕ → Option ℕ
+first_slot case number = first_place (has_number (slot_pages case) number) (length case.wal.slots)
+
+-- the first Good record of a page
+abbrev pub first_record : Gathered → ℕ → Option ℕ
+first_record case number = first_place (is_good_record case number) (length case.journal.entries)
+
+-- the page past the end of the file, with its first image
+abbrev pub past_only : Gathered → (ℕ → Option ℕ) → ℕ → Option ℕ
+past_only case first number = if is_past (lock_in case) (page_count case) number then first number else None
+
+-- some Committed slot has the bytes of the file's page
+abbrev pub is_marked : Gathered → ℕ → Bool
+is_marked case number =
+    is_in_file (lock_in case) (page_count case) number && list_any (is_same case number) (range_with_len 0 (length case.wal.slots))
+
+-- the pages that some Committed slot equals, with the first slot of each
+abbrev pub marked_only : Gathered → ℕ → Option ℕ
+marked_only case number = if is_marked case number then first_slot case number else None
+
+-- the parts of a case: the slots' pages, the pages past the file that slots and Good records hold, the marked pages, and
+-- the first Good record of each page
+pub record IsCase (case : Gathered) (frames : List ℕ) (past marks past_records : List FirstImage) (records : ℕ → Option ℕ) : Type 0 where
+  pub gathered : IsGathered case
+  pub slots_are : frames ≡ slot_pages case
+  pub past_rise : Rises 1 past
+  pub past_are : (number : ℕ) → first_in past number ≡ past_only case (first_slot case) number
+  pub marks_rise : Rises 1 marks
+  pub marks_are : (number : ℕ) → first_in marks number ≡ marked_only case number
+  pub past_records_rise : Rises 1 past_records
+  pub past_records_are : (number : ℕ) → first_in past_records number ≡ past_only case (first_record case) number
+  pub records_are : (number : ℕ) → records number ≡ first_record case number
+
+-- what stands for a page once image i of another was noted, where it counts
+abbrev pub noted : Bool → ℕ → ℕ → Option ℕ → ℕ → Option ℕ
+noted counts page i (Some first) number = Some first
+noted counts page i None number = if counts && (page == number) then Some i else None
+
+-- of the entries of a map those whose key is kept, as pages with their first images
+abbrev pub images_of : (ℕ → Bool) → List (ℕ × ℕ) → List FirstImage
+images_of keeps [] = []
+images_of keeps (entry ∷ entries) = (if keeps entry.0 then (record { page = entry.0; first = entry.1 }) ∷ [] else []) ++ images_of keeps entries
+
+-- the pages that have something in a map
+abbrev pub has_key : (ℕ → Option ℕ) → ℕ → Bool
+has_key known number = is_some (known number)
+
+-- the first image of a page at a moment: the first Good record, or the first slot
+abbrev pub first_at : Gathered → Moment → ℕ → Option ℕ
+first_at case JournalMoment number = first_record case number
+first_at case moment number = first_slot case number
+
+-- how many of the images a moment may see: all records, or the slots up to it
+abbrev pub bound_at : Gathered → Moment → ℕ
+bound_at case JournalMoment = length case.journal.entries
+bound_at case moment = limit_at case moment
+
+-- the page has no image at the moment, and so its view is the page of the file, if it has one
+abbrev pub has_no_image : Gathered → Moment → ℕ → Bool
+has_no_image case moment number = is_none (image_at case moment number)
+
+-- where an origin can be: at a whole page of the file, or at a slot or a record that is there
+abbrev pub Stands : Gathered → ℕ → Origin → Type 0
+Stands case number Database = (1 ≤ number) × (number ≤ page_count case)
+Stands case number (Slot i) = i < length case.wal.slots
+Stands case number (Record i) = i < length case.journal.entries
+
+-- a page of the list of marks has no image at the moment
+abbrev pub is_bare : Gathered → Moment → FirstImage → Bool
+is_bare case moment image = has_no_image case moment image.page
+
+-- the pages of the file that have a view at a moment
+abbrev pub file_pages_at : Gathered → Moment → List ℕ
+file_pages_at case moment = file_pages (lock_in case) (min (size_at case moment) (page_count case))

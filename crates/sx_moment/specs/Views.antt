@@ -1,0 +1,78 @@
+-- Where the bytes of a page stand at a moment ("Reader Algorithm", "The Rollback Journal", "The Lock-Byte Page").
+use Rattle.std.specs.Prelude.{ℕ, ◌-◌, ◌*◌, Bool, not, ◌&&◌, if◌then◌else◌, ◌==◌, nat_le, nat_lt, List, [], ◌∷◌, length, map, take, drop, filter, Option, None, Some}
+use Rattle.std.specs.Option.{option_map, option_or}
+use Rattle.std.specs.List.{range_with_len}
+use Rattle.sx_base.specs.Maps.{lock_page_of}
+use Rattle.sx_base.specs.declared.evidence.Part.TheVariants as parts
+use Rattle.sx_base.specs.declared.evidence.Place.{Place}
+use Rattle.sx_base.specs.declared.moment.Moment.{Moment}
+use Rattle.sx_base.specs.declared.moment.Moment.TheVariants.{Journal, File, Commit}
+use Rattle.sx_chain.specs.Newest.{has_number, last_place}
+use Rattle.sx_journal.specs.Entries.{is_good}
+use Rattle.sx_moment.specs.Gathered.{Gathered, bytes_in, slot_at, entry_at, page_count, size_at, limit_at}
+use Rattle.sx_moment.specs.declared.origin.Origin.{Origin}
+use Rattle.sx_moment.specs.declared.origin.Origin.TheVariants.{Database, Slot, Record}
+
+-- the first of a list, if there is one
+abbrev pub first_of : List ℕ → Option ℕ
+first_of [] = None
+first_of (x ∷ xs) = Some x
+
+-- the least place below a bound that passes a test, if there is one: the first that a filter of all places keeps
+unfoldable pub first_place : (ℕ → Bool) → ℕ → Option ℕ
+first_place test bound = first_of (filter test (range_with_len 0 bound))
+
+-- the page numbers of the slots, in file order
+abbrev pub slot_pages : Gathered → List ℕ
+slot_pages case = map (λ slot. slot.page) case.wal.slots
+
+-- record i is Good and holds the page
+abbrev pub is_good_record : Gathered → ℕ → ℕ → Bool
+is_good_record case number i = is_good (entry_at case i).class && ((entry_at case i).page == number)
+
+-- The image of a page that a moment has outside the file: at the journal's the first Good record of the page, at a
+-- commit the last slot of the page up to the commit's.
+abbrev pub image_at : Gathered → Moment → ℕ → Option Origin
+image_at case Journal number = option_map Record (first_place (is_good_record case number) (length case.journal.entries))
+image_at case File number = None
+image_at case (Commit k) number = option_map Slot (last_place (has_number (slot_pages case) number) (limit_at case (Commit k)))
+
+-- a page that may have a view: one of so many, from 1, and not the lock-byte page
+abbrev pub can_be_viewed : ℕ → ℕ → ℕ → Bool
+can_be_viewed lock size number = nat_lt 0 number && nat_le number size && not (number == lock)
+
+-- the lock-byte page
+abbrev pub lock_in : Gathered → ℕ
+lock_in case = lock_page_of case.header.page_size
+
+-- the page of the file, where that is wholly there
+abbrev pub file_page : Gathered → ℕ → Option Origin
+file_page case number = if nat_le number (page_count case) then Some Database else None
+
+-- where the view of a page comes from, if it has one: its image, else the page of the file
+unfoldable pub origin_of : Gathered → Moment → ℕ → Option Origin
+origin_of case moment number =
+    if can_be_viewed (lock_in case) (size_at case moment) number then option_or (image_at case moment number) (file_page case number)
+    else None
+
+-- the place where a page's image begins
+abbrev pub place_of : Gathered → ℕ → Origin → Place
+place_of case number Database = record { part = parts.Database; offset = (number - 1) * case.header.page_size }
+place_of case number (Slot i) = record { part = parts.Wal; offset = (slot_at case i).offset }
+place_of case number (Record i) = record { part = parts.Journal; offset = (entry_at case i).offset }
+
+-- the bytes that stand there
+abbrev pub page_at : Gathered → List ℕ → ℕ → List ℕ
+page_at case bytes offset = take case.header.page_size (drop offset bytes)
+
+abbrev pub bytes_of : Gathered → ℕ → Origin → List ℕ
+bytes_of case number Database = page_at case case.database (place_of case number Database).offset
+bytes_of case number (Slot i) = page_at case (bytes_in case.wal_bytes) (place_of case number (Slot i)).offset
+bytes_of case number (Record i) = page_at case (bytes_in case.journal_bytes) (place_of case number (Record i)).offset
+
+-- the view of a page, if it has one: its bytes, and where they begin
+abbrev pub view_of : Gathered → Moment → ℕ → Option (List ℕ)
+view_of case moment number = option_map (bytes_of case number) (origin_of case moment number)
+
+abbrev pub source_of : Gathered → Moment → ℕ → Option Place
+source_of case moment number = option_map (place_of case number) (origin_of case moment number)

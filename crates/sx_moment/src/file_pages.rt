@@ -1,0 +1,46 @@
+//! The pages of the database file that can have a view: a range, less the lock-byte page ("The Lock-Byte Page").
+ghost use Rattle.std.specs.Prelude.{◌≡◌, ℕ, ◌+◌, ◌^◌, ◌<◌, ◌≤◌, length, find, nat_lt, slice_index};
+ghost use Rattle.sx_moment.specs.Firsts.{file_pages};
+
+/// How many of the first `count` pages aren't the lock-byte page, which is `lock`.
+#[tactic(auto, using(crate::proofs::FilePages::count_below, crate::proofs::FilePages::count_around))]
+pub fn count_pages(lock: u32, count: u32) -> u32
+    requires { 1 ≤ lock }
+    ensures { result ≡ length (file_pages lock count) }
+{
+    if count < lock { count } else { count - 1 }
+}
+
+/// The page at a place among them, in rising order from 0.
+#[tactic(auto, using(crate::proofs::FilePages::page_before, crate::proofs::FilePages::page_behind))]
+pub fn page_at(lock: u32, count: u32, place: u32) -> u32
+    requires first { 1 ≤ lock }
+    requires few { count < 2 ^ 31 }
+    requires within { place < length (file_pages lock count) }
+    ensures { result ≡ slice_index (file_pages lock count) place }
+{
+    if place + 1 < lock {
+        place + 1
+    } else {
+        place + 2
+    }
+}
+
+/// The least of them above a number.
+#[tactic(auto, using(crate::proofs::FilePages::next_is, crate::proofs::FilePages::next_second, crate::proofs::FilePages::next_none))]
+pub fn page_after(lock: u32, count: u32, after: u32) -> Option<u32>
+    requires few { count < 2 ^ 31 }
+    ensures { result ≡ find (nat_lt after) (file_pages lock count) }
+{
+    if after >= count {
+        return None;
+    }
+    if after + 1 != lock {
+        return Some(after + 1);
+    }
+    if after + 2 <= count {
+        Some(after + 2)
+    } else {
+        None
+    }
+}

@@ -1,0 +1,140 @@
+//! What a case keeps beside the evidence: which images each page has first.
+ghost use Rattle.std.specs.Prelude.{◌≡◌, ℕ, ◌<◌, ◌≤◌, ◌||◌, ◌&&◌, Bool, if◌then◌else◌, None, [], ◌∷◌, ◌++◌, length, map, is_some, IfOk, OnOk};
+ghost use Rattle.std.specs.Ordering.{nat_cmp};
+ghost use Rattle.std.specs.BTreeMap.{get};
+ghost use Rattle.sx_chain.specs.Newest.{has_number};
+ghost use Rattle.sx_journal.specs.Entries.{is_good};
+ghost use Rattle.sx_moment.specs.Gathered.{page_count};
+ghost use Rattle.sx_moment.specs.Views.{lock_in, slot_pages};
+ghost use Rattle.sx_moment.specs.Marks.{is_same};
+ghost use Rattle.sx_moment.specs.Firsts.{first_in};
+ghost use Rattle.sx_moment.specs.Parts.{first_slot, first_record, past_only, is_in_file, is_marked, noted, images_of, has_key};
+
+use crate::first_image::FirstImage;
+use crate::first_images::FirstImages;
+use crate::sources::Sources;
+use std::alloc::{AllocError, Global};
+use std::collections::BTreeMap;
+use sx_base::Class;
+
+// Notes that the image `i` holds the page, where it counts and none was noted before.
+fn note(found: &mut BTreeMap<u32, u32>, counts: bool, page: u32, i: u32) -> Result<(), AllocError>
+    ensures { OnOk result ((number : ℕ) → get nat_cmp found.new number ≡ noted counts page i (get nat_cmp found.old number) number) }
+{
+    if !counts || found.contains_key(&page) {
+        return Ok(());
+    }
+    found.insert(page, i)?;
+    Ok(())
+}
+
+/// The first slot of each page. The cost is a look-up for each slot.
+pub fn first_slots(alloc: Global, sources: &Sources<'_>) -> Result<BTreeMap<u32, u32>, AllocError>
+    ensures { IfOk result (λ found. (number : ℕ) → get nat_cmp found number ≡ first_slot sources.now number) }
+{
+    let mut found = BTreeMap::new(alloc);
+    for i in 0..sources.slots() {
+        note(&mut found, true, sources.slot(i).page, i)?;
+    }
+    Ok(found)
+}
+
+/// The first Good record of each page. The cost is a look-up for each record.
+pub fn first_records(alloc: Global, sources: &Sources<'_>) -> Result<BTreeMap<u32, u32>, AllocError>
+    ensures { IfOk result (λ found. (number : ℕ) → get nat_cmp found number ≡ first_record sources.now number) }
+{
+    let mut found = BTreeMap::new(alloc);
+    for i in 0..sources.entries() {
+        let entry = sources.entry(i);
+        note(&mut found, is_good(entry.class), entry.page, i)?;
+    }
+    Ok(found)
+}
+
+/// The pages of the file that some Committed slot equals, each with one such slot. A page of the file is compared at most
+/// once with each slot of it, and with none after one that equals it.
+pub fn same_pages(alloc: Global, sources: &Sources<'_>) -> Result<BTreeMap<u32, u32>, AllocError>
+    ensures { IfOk result (λ found. (number : ℕ) → is_some (get nat_cmp found number) ≡ is_marked sources.now number) }
+{
+    let mut found = BTreeMap::new(alloc);
+    for i in 0..sources.slots() {
+        note_same(&mut found, sources, i)?;
+    }
+    Ok(found)
+}
+
+// Notes the page of slot `i` where the slot equals it.
+fn note_same(
+    found: &mut BTreeMap<u32, u32>,
+    sources: &Sources<'_>,
+    i: u32,
+) -> Result<(), AllocError>
+    requires { i < length sources.now.wal.slots }
+    ensures { OnOk result ((number : ℕ) → is_some (get nat_cmp found.new number)
+        ≡ (is_some (get nat_cmp found.old number) || (is_in_file (lock_in sources.now) (page_count sources.now) number && is_same sources.now number i))) }
+{
+    let page = sources.slot(i).page;
+    if !sources.is_in_file(page) {
+        return Ok(());
+    }
+    if found.contains_key(&page) {
+        return Ok(());
+    }
+    note(found, sources.is_same(i), page, i)
+}
+
+/// Of the pages of a map, those past the end of the file that can have a view. The cost is that of going over the map.
+pub fn past_images(
+    alloc: Global,
+    found: &BTreeMap<u32, u32>,
+    sources: &Sources<'_>,
+) -> Result<FirstImages, AllocError>
+    ensures { IfOk result (λ images. (number : ℕ) → first_in images number ≡ past_only sources.now (get nat_cmp found.now) number) }
+{
+    let lock = sources.lock_page();
+    let count = sources.page_count();
+    let mut items = Vec::new(alloc);
+    for (page, first) in found.iter() {
+        push_if(&mut items, count < *page && *page != lock, *page, *first)?;
+    }
+    Ok(FirstImages::new(items))
+}
+
+/// Of the pages of a map, those that another has too. The cost is a look-up for each.
+pub fn marked_images(
+    alloc: Global,
+    found: &BTreeMap<u32, u32>,
+    same: &BTreeMap<u32, u32>,
+) -> Result<FirstImages, AllocError>
+    requires { get nat_cmp same.now 0 ≡ None }
+    ensures { IfOk result (λ images. (number : ℕ) → first_in images number
+        ≡ (if has_key (get nat_cmp same.now) number then get nat_cmp found.now number else None)) }
+{
+    let mut items = Vec::new(alloc);
+    for (page, first) in found.iter() {
+        push_if(&mut items, same.contains_key(page), *page, *first)?;
+    }
+    Ok(FirstImages::new(items))
+}
+
+// Puts a page with its first image behind the others, where it is kept.
+fn push_if(
+    items: &mut Vec<FirstImage>,
+    keeps: bool,
+    page: u32,
+    first: u32,
+) -> Result<(), AllocError>
+    ensures { OnOk result (items.new.items ≡ items.old.items ++ (if keeps then (record { page = page; first = first }) ∷ [] else [])) }
+{
+    if keeps {
+        items.push(FirstImage { page, first })?;
+    }
+    Ok(())
+}
+
+// Whether a record is Good.
+fn is_good(class: Class) -> bool
+    ensures { result ≡ is_good class }
+{
+    matches!(class, Class::Good)
+}

@@ -1,0 +1,21 @@
+//! The moments of the evidence, and the pages of each as borrowed views.
+#![tactic(auto)]
+
+mod case;
+mod evidence;
+mod file_pages;
+mod first_image;
+mod first_images;
+mod gathering;
+mod newest_slot;
+mod origin;
+mod pages;
+mod snapshot;
+mod sources;
+
+pub use case::Case;
+pub use evidence::Evidence;
+pub use snapshot::Snapshot;
+
+#[cfg(test)]
+mod tests;
