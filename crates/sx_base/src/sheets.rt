@@ -9,15 +9,15 @@ use crate::pages::{PageViews, Pages};
 /// without a view. This is the plainest implementation of [`Pages`]: it counts by going through the list, and so is
 /// meant for few pages.
 #[derive(Clone, Copy)]
-pub struct Sheets<'a> {
+pub struct Sheets<'s, 'a> {
     page_size: u32,
-    sheets: &'a [&'a [u8]],
+    sheets: &'s [&'a [u8]],
     ghost few: { length sheets.now < 2 ^ 32 },
 }
 
-impl<'a> Sheets<'a> {
+impl<'s, 'a> Sheets<'s, 'a> {
     /// The pages of `page_size` bytes that stand in this list.
-    pub fn new(page_size: u32, sheets: &'a [&'a [u8]]) -> Self
+    pub fn new(page_size: u32, sheets: &'s [&'a [u8]]) -> Self
         requires { length sheets.now < 2 ^ 32 }
         ensures page_size { result.page_size ≡ page_size }
         ensures sheets { result.sheets.now ≡ sheets.now }
@@ -26,7 +26,7 @@ impl<'a> Sheets<'a> {
     }
 }
 
-impl<'a> PageViews for Sheets<'a> {
+impl<'s, 'a> PageViews for Sheets<'s, 'a> {
     ghost use Rattle.std.specs.Prelude.{length};
     ghost use Rattle.sx_base.specs.Sheets.{sheet_view};
 
@@ -37,7 +37,7 @@ impl<'a> PageViews for Sheets<'a> {
     ghost view = { λ it. sheet_view it.page_size it.sheets.now };
 }
 
-impl<'a> Pages<'a> for Sheets<'a> {
+impl<'s, 'a> Pages<'a> for Sheets<'s, 'a> {
     #[tactic(auto, using(crate::proofs::SheetViews::view_past), unfolding(crate::specs::Sheets::sheet_view))]
     fn size(&self) -> u32 {
         self.sheets.len() as u32

@@ -1,11 +1,13 @@
 //! Numbers in the bytes of the evidence, the sizes of its pages and the encodings of its texts.
 #![tactic(auto)]
 
+mod decoding;
 mod encoding;
 mod number;
 mod page_size;
 mod varints;
 
+pub use decoding::{decode, decoding_both_ways, split_first_unit};
 pub use encoding::Encoding;
 pub use number::{be16, be24, be32, be48, be64};
 pub use page_size::{can_be_page_size, page_sizes_are_multiples};

@@ -16,3 +16,6 @@ mod sources;
 pub use case::Case;
 pub use evidence::Evidence;
 pub use snapshot::Snapshot;
+
+#[cfg(test)]
+mod tests;

@@ -1,2 +1,4 @@
+pub mod CellRanges
 pub mod ChainSteps
 pub mod Pieces
+pub mod WholeLemmas

@@ -1,7 +1,7 @@
 -- A payload goes on by one piece, or ends.
-use Rattle.std.proofs.Common.{◌≡◌, ℕ, zero, suc, ◌+◌, ◌-◌, ◌/◌, ◌%◌, ◌<◌, ◌≤◌, ◌==◌, Bool, true, false, cond, min, List, [], ◌∷◌, ◌++◌, Option, Some, None, Bor, length, take, drop, nat_le, nat_eq, option_copied, refl, sym, ap, ◌∙◌, arith, inl, inr, eq-or-lt_of_le, if◌then◌else◌}
+use Rattle.std.proofs.Common.{◌≡◌, ℕ, suc, ◌+◌, ◌-◌, ◌/◌, ◌%◌, ◌<◌, ◌≤◌, ◌==◌, Bool, true, false, min, List, [], ◌∷◌, ◌++◌, Option, Some, None, Bor, length, take, drop, nat_le, option_copied, refl, sym, ap, ◌∙◌, arith}
 use Rattle.std.specs.Int.{div_ceil}
-use Rattle.std.specs.Option.{option_map_or, option_to_list}
+use Rattle.std.specs.Option.{option_to_list}
 use Rattle.std.proofs.Math.Nat.{add-div_right, div-eq_of_lt, add-mod_right, mod-eq_of_lt, zero-div, zero-mod}
 use Rattle.std.proofs.lemmas.Bool.{leb-true, leb-false, le-leb}
 use Rattle.std.proofs.lemmas.Bool.Decides.{nat_tests}
@@ -11,7 +11,7 @@ use Rattle.sx_overflow.specs.Chains.{need_of, link_of, body_of, linked, chain_of
 use Rattle.sx_overflow.specs.Payloads.{ToCome, to_come}
 
 -- nothing is needed for nothing
-need_none : (room : ℕ) → div_ceil 0 room ≡ 0
+pub need_none : (room : ℕ) → div_ceil 0 room ≡ 0
 need_none room = rw (zero-div room, zero-mod room) refl
 
 need_case : (room left : ℕ) (b : Bool) → 0 < room → 0 < left → nat_le room left ≡ b
@@ -160,9 +160,10 @@ given_body size view usable number left next rest len cut page local taken befor
     let need = need_more (usable - 4) left (omega arith) more in
     let pages = pages_step size view usable number left page least more within found in
     let over : rest ≡ left - (usable - 4) = omega arith in
-    let piece : take left (body_of usable page) ≡ take cut (drop 4 page) = take_least left (usable - 4) cut (drop 4 page) (is_cut ∙ long) in
-    (rw (← seen, none, same, none, link, over, pages) (rw piece refl),
-    rw (← seen, link, over, pages) (one_more_is (length (overflow_pages size view usable (link_of page) (left - (usable - 4)))) (need_of usable left) (div_ceil (left - (usable - 4)) (usable - 4)) need))
+    let piece : take left (body_of usable page) ≡ take cut (drop 4 page) = take_least left (usable - 4) cut (drop 4 page) (is_cut ∙ long) in (
+      rw (← seen, none, same, none, link, over, pages) (rw piece refl),
+      rw (← seen, link, over, pages) (one_more_is (length (overflow_pages size view usable (link_of page) (left - (usable - 4)))) (need_of usable left) (div_ceil (left - (usable - 4)) (usable - 4)) need),
+    )
 
 -- whether no more pages are needed than are held, as it was found out
 pub enough : (size : ℕ) (view : ℕ → Option (List ℕ)) (usable left need : ℕ) (answer found : Bool)

@@ -1,3 +1,4 @@
 pub mod Chains
 pub mod Payloads
 pub mod Sound
+pub mod Whole

@@ -1,6 +1,6 @@
 -- The payload of a cell: its local part, and then what the overflow pages hold that it needs ("Cell Payload Overflow
 -- Pages").
-use Rattle.std.specs.Prelude.{◌≡◌, ℕ, ◌+◌, ◌-◌, ◌==◌, ◌≤◌, Bool, true, false, List, [], ◌∷◌, ◌++◌, length, take, drop, map, Option, Some, None, unwrap_or, Result, Ok, Err, if◌then◌else◌}
+use Rattle.std.specs.Prelude.{◌≡◌, ℕ, ◌-◌, ◌==◌, Bool, true, false, List, [], ◌∷◌, ◌++◌, length, take, drop, Option, Some, None, unwrap_or, Result, Ok, Err, if◌then◌else◌}
 use Rattle.std.specs.List.{concat}
 use Rattle.std.specs.Borrow.{Bor}
 use Rattle.std.specs.declared.vec.Vec.{Vec}
@@ -9,7 +9,7 @@ use Rattle.sx_cell.specs.declared.cell.Cell.{Cell}
 use Rattle.sx_overflow.specs.declared.refusal.ShortChain.{ShortChain}
 use Rattle.sx_overflow.specs.declared.refusal.PayloadRefused.{PayloadRefused}
 use Rattle.sx_overflow.specs.declared.refusal.PayloadRefused.TheVariants.{ShortChain as IsShort, Memory}
-use Rattle.sx_overflow.specs.Chains.{need_of, chain_of, body_of, overflow_pages, bodies_of}
+use Rattle.sx_overflow.specs.Chains.{need_of, overflow_pages, bodies_of}
 
 -- what is to come of a payload: its pieces in order, and whether these make it whole; else the chain is too short
 pub record ToCome : Type 0 where
@@ -34,12 +34,6 @@ some_piece bytes = if length bytes == 0 then [] else bytes ∷ []
 abbrev pub payload_of : ℕ → (ℕ → Option (List ℕ)) → List ℕ → ℕ → Cell → ToCome
 payload_of size view page usable cell =
     to_come size view usable (some_piece (local_part page cell)) (unwrap_or cell.overflow 0) (cell.payload - cell.local)
-
--- what holds of the payload of each cell that was read from a page with so many usable bytes
-pub record FitsPage (usable : ℕ) (cell : Cell) : Type 0 where
-  pub part : cell.local ≤ cell.payload
-  pub limit : cell.payload ≤ 2147483647
-  pub held : cell.local_at + cell.local ≤ usable
 
 -- the next piece comes off the front; at the end nothing changes, and it is the end of a whole payload or of a short chain
 abbrev pub Gives : Result (Option (Bor (List ℕ))) ShortChain → ToCome → ToCome → Type 0

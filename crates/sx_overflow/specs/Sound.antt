@@ -1,8 +1,15 @@
--- What a payload in hand keeps.
+-- What is known of a cell whose payload is asked for, and what a payload in hand keeps.
 use Rattle.std.specs.Prelude.{◌≡◌, ℕ, ◌+◌, ◌≤◌, Bool, true, List, length, Option}
 use Rattle.std.specs.List.{concat}
 use Rattle.sx_base.specs.Held.{held_pages}
+use Rattle.sx_cell.specs.declared.cell.Cell.{Cell}
 use Rattle.sx_overflow.specs.Chains.{need_of}
+
+-- the local part is one of the payload and stands within the usable bytes
+pub record IsWithin (usable : ℕ) (cell : Cell) : Type 0 where
+  pub part : cell.local ≤ cell.payload
+  pub limit : cell.payload ≤ 2147483647
+  pub held : cell.local_at + cell.local ≤ usable
 
 -- the usable bytes are within the page size, the bytes to come are few, and where the overflow pages that are needed were
 -- counted no more are needed than are held

@@ -7,7 +7,7 @@ use sx_base::Pages;
 use sx_bytes::be32;
 
 /// The bytes of a link, at the front of an overflow page.
-const LINK_LEN: u32 = 4;
+pub const LINK_LEN: u32 = 4;
 
 /// How many overflow pages hold so many bytes of payload, on pages with so many usable bytes, 480 or more.
 pub fn need_of(usable: u32, left: u32) -> u32

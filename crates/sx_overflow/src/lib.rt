@@ -5,8 +5,13 @@
 #![tactic(auto)]
 
 mod chain;
+mod law;
 mod payload;
 mod refusal;
 
+pub use law::pieces_make_the_payload;
 pub use payload::Payload;
 pub use refusal::{PayloadRefused, ShortChain};
+
+#[cfg(test)]
+mod tests;

@@ -1,8 +1,12 @@
 //! The payload of a cell.
-ghost use Rattle.std.specs.Prelude.{◌≡◌, ◌≤◌, length};
-ghost use Rattle.sx_overflow.specs.Payloads.{payload_of, FitsPage, Gives, Gathers};
+ghost use Rattle.std.specs.Prelude.{◌≡◌, ◌≤◌, length, option_copied};
+ghost use Rattle.std.specs.List.{concat};
+ghost use Rattle.std.specs.Option.{option_to_list};
+ghost use Rattle.sx_cell.specs.Cells.{WasRead};
+ghost use Rattle.sx_overflow.specs.Payloads.{payload_of, Gives, Gathers};
+ghost use Rattle.sx_overflow.specs.Sound.{IsWithin};
 
-use crate::chain::{is_whole_chain, is_within_held, linked, need_of};
+use crate::chain::{LINK_LEN, is_whole_chain, is_within_held, linked, need_of};
 use crate::refusal::{PayloadRefused, ShortChain};
 use std::alloc::Global;
 use std::marker::Model;
@@ -42,9 +46,10 @@ impl<'p, 'a, P: Pages<'a>> Payload<'p, 'a, P> {
         requires least { 480 ≤ usable }
         requires held { usable ≤ length page.now }
         requires within { usable ≤ P.page_size pages.now }
-        requires cell { FitsPage usable cell.now }
+        requires read { WasRead page.now usable cell.now }
         ensures { result ≡ payload_of (P.pages pages.now) (P.view pages.now) page.now usable cell.now }
     {
+        lies_within(page, cell, usable);
         let local = &page[cell.local_at as usize..(cell.local_at + cell.local) as usize];
         Payload {
             pages,
@@ -79,10 +84,10 @@ impl<'p, 'a, P: Pages<'a>> Payload<'p, 'a, P> {
         let Some(page) = linked(self.pages, self.link) else {
             return Err(ShortChain);
         };
-        let len = self.left.min(self.usable - 4);
+        let len = self.left.min(self.usable - LINK_LEN);
         self.link = be32(page, 0);
         self.left -= len;
-        Ok(Some(&page[4..4 + len as usize]))
+        Ok(Some(&page[LINK_LEN as usize..(LINK_LEN + len) as usize]))
     }
 
     /// The pieces that are still to come, joined: the payload, where none was taken.
@@ -96,9 +101,10 @@ impl<'p, 'a, P: Pages<'a>> Payload<'p, 'a, P> {
         if !self.is_whole() {
             return Err(PayloadRefused::ShortChain);
         }
-        let mut bytes = Vec::with_capacity(alloc, self.len())?;
+        let most = len_of(self.local) + self.left as usize;
+        let mut bytes = Vec::with_capacity(alloc, most)?;
         while let Some(piece) = self.next_piece()? {
-            bytes.extend_from_slice(piece)?;
+            bytes.extend_from_slice(piece).unwrap();
         }
         Ok(bytes)
     }
@@ -108,11 +114,26 @@ impl<'p, 'a, P: Pages<'a>> Payload<'p, 'a, P> {
         ensures { result ≡ self.now.whole }
     {
         let need = need_of(self.usable, self.left);
-        is_within_held(self.pages, need, self.counted) && is_whole_chain(self.pages, self.link, need)
-    }
-
-    /// How many bytes are still to come of a whole payload.
-    fn len(&self) -> usize {
-        self.local.map_or(0, |piece| piece.len()) + self.left as usize
+        is_within_held(self.pages, need, self.counted)
+            && is_whole_chain(self.pages, self.link, need)
     }
 }
+
+/// The bytes of a piece, if there is one.
+fn len_of(piece: Option<&[u8]>) -> usize
+    ensures { result ≡ length (concat (option_to_list (option_copied piece.entry))) }
+{
+    match piece {
+        Some(bytes) => bytes.len(),
+        None => 0,
+    }
+}
+
+/// The local part of a cell that was read from a page stands within the usable bytes, and is one of its payload. This is
+/// a fact about what is read; the function has no code.
+fn lies_within(page: &[u8], cell: &Cell, usable: u32)
+    requires least { 480 ≤ usable }
+    requires held { usable ≤ length page.now }
+    requires read { WasRead page.now usable cell.now }
+    ensures { IsWithin usable cell.now }
+{}

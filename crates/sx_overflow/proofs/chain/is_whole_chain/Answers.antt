@@ -1,4 +1,4 @@
-use Rattle.std.proofs.Common.{◌≡◌, ℕ, ◌+◌, ◌-◌, length, sym, ◌∙◌, arith}
+use Rattle.std.proofs.Common.{length, sym, arith}
 use Rattle.sx_overflow.specs.Chains.{chain_of}
 use Rattle.sx_overflow.proofs.ChainSteps.{chain_more, chain_short, chain_whole}
 use Rattle.sx_overflow.proofs.chain.is_whole_chain.Goals as goal
@@ -13,7 +13,7 @@ pub loop-preserved : goal.loop-preserved
 loop-preserved g c =
     let view = g.P.PageViews.view c.args.pages.now in
     let more = chain_more view c.loop.at c.args.need c.loop.counter c.be32-at.result c.in-Some.page.now c.loop-test.true
-        (sym c.in-Some.ensures.view) c.be32-at.ensures in
+    (sym c.in-Some.ensures.view) c.be32-at.ensures in
     omega (arith, more, c.loop.invariant)
 
 pub returns : goal.returns

@@ -1,0 +1,4 @@
+pub mod Nodes
+pub mod Freeblocks
+pub mod Claims
+pub mod Fixed

@@ -1,0 +1,5 @@
+use Rattle.sx_overflow.proofs.WholeLemmas.{payload_is_whole}
+use Rattle.sx_overflow.proofs.law.pieces_make_the_payload.Goals as goal
+
+pub returns-clause-short : goal.returns-clause-short
+returns-clause-short c = payload_is_whole

@@ -1,0 +1,15 @@
+use Rattle.std.proofs.Common.{refl, arith}
+use Rattle.sx_overflow.proofs.Pieces.{first_of}
+use Rattle.sx_overflow.proofs.WholeLemmas.{few_to_come}
+use Rattle.sx_overflow.proofs.payload.Payload.gather.Goals as goal
+
+pub loop-bytes-init : goal.loop-bytes-init
+loop-bytes-init g c =
+    let few = few_to_come (g.P.PageViews.pages c.self.inside.pages.now) (g.P.PageViews.view c.self.inside.pages.now)
+    c.self.inside.usable (first_of c.self.inside.local) c.self.inside.link c.self.inside.left in
+    let come = rw c.self.view_is at few in
+    record {
+      joined = rw c.in_ok-bytes.ensures.items refl;
+      room = omega (arith, come, c.in_ok-bytes.ensures.len, c.in_ok-bytes.ensures.exact, c.len_of.ensures);
+      whole = refl;
+    }

@@ -1,0 +1,87 @@
+-- The types of a header and the columns behind it, one at a time.
+use Rattle.std.proofs.Common.{◌≡◌, ℕ, zero, suc, ◌+◌, ◌<◌, ◌≤◌, true, List, [], ◌∷◌, length, take, drop, Option, Some, None, is_some, refl, ap, ◌∙◌, arith, sub-one, length-drop}
+use Rattle.std.specs.Option.{option_map}
+use Rattle.sx_bytes.specs.Varints.{varint_at}
+use Rattle.sx_record.specs.SerialTypes.{body_len, content_in}
+use Rattle.sx_record.specs.Records.{types_behind, types_in, found_first, contents, bodies_len, listed, columns_in, IsFilled}
+
+-- the pending bytes are passed over
+pending_types : (pending : ℕ) (bytes : List ℕ) → types_behind pending bytes ≡ types_behind 0 (drop pending bytes)
+unfolding types_behind
+pending_types zero bytes = refl
+pending_types (suc pending) [] = refl
+pending_types (suc pending) (byte ∷ bytes) = pending_types pending bytes
+
+-- no type ends
+pub no_type : (bytes : List ℕ) → varint_at bytes ≡ None → 0 < length bytes → types_in bytes ≡ None
+unfolding types_in types_behind
+no_type [] none some = absurd (omega arith)
+no_type (byte ∷ bytes) none some = ap (λ found. found_first found (λ pending. types_behind pending bytes)) none
+
+-- nothing is left
+pub no_bytes : (bytes : List ℕ) → length bytes ≡ 0 → types_in bytes ≡ Some []
+unfolding types_in types_behind
+no_bytes [] none = refl
+no_bytes (byte ∷ bytes) none = absurd (omega arith)
+
+passed : (len type byte : ℕ) (bytes : List ℕ) → 0 < len
+    → found_first (Some (type, len)) (λ pending. types_behind pending bytes) ≡ option_map (λ types. type ∷ types) (types_behind 0 (drop len (byte ∷ bytes)))
+passed zero type byte bytes some = absurd (omega arith)
+passed (suc len) type byte bytes some = rw sub-one (ap (option_map (λ types. type ∷ types)) (pending_types len bytes))
+
+-- a type stands first
+pub one_type : (bytes : List ℕ) (type len : ℕ) → varint_at bytes ≡ Some (type, len) → 0 < len → 0 < length bytes
+    → types_in bytes ≡ option_map (λ types. type ∷ types) (types_in (drop len bytes))
+unfolding types_in types_behind
+one_type [] type len found some there = absurd (omega arith)
+one_type (byte ∷ bytes) type len found some there =
+    ap (λ found. found_first found (λ pending. types_behind pending bytes)) found ∙ passed len type byte bytes some
+
+-- the first of the columns, where a type stands first and all are filled
+record IsFirst (type : ℕ) (types bodies : List ℕ) (behind : List ℕ) : Type 0 where
+  pub there : body_len type ≤ length bodies
+  pub column : columns_in types bodies ≡ content_in type (take (body_len type) bodies) ∷ columns_in behind (drop (body_len type) bodies)
+  pub filled : IsFilled behind (drop (body_len type) bodies)
+
+first_of_all : (type : ℕ) (types behind bodies : List ℕ) (all rest : Option (List ℕ)) → types_in types ≡ all → types_in behind ≡ rest
+    → all ≡ option_map (λ types. type ∷ types) rest → is_some all ≡ true → bodies_len (listed all) ≡ length bodies
+    → IsFirst type types bodies behind
+unfolding columns_in contents
+first_of_all type types behind bodies all None read left is whole full = absurd (cc)
+first_of_all type types behind bodies all (Some others) read left is whole full =
+    let sum : body_len type + bodies_len others ≡ length bodies = rw is at full in
+    record {
+      there = omega arith;
+      column = rw (read, is, left) refl;
+      filled = record {
+        whole = rw left refl;
+        full = rw left (simp (length-drop) (omega arith));
+      };
+    }
+
+first : (types bodies : List ℕ) (type len : ℕ) → varint_at types ≡ Some (type, len) → 0 < len → len ≤ length types → IsFilled types bodies
+    → IsFirst type types bodies (drop len types)
+first types bodies type len found some within filled =
+    first_of_all type types (drop len types) bodies (types_in types) (types_in (drop len types)) refl refl
+    (one_type types type len found some (omega arith)) filled.whole filled.full
+
+-- no column is left
+pub no_column : (types bodies : List ℕ) → varint_at types ≡ None → columns_in types bodies ≡ []
+unfolding columns_in contents types_in types_behind
+no_column [] bodies none = refl
+no_column (byte ∷ types) bodies none = ap (λ found. contents (listed (found_first found (λ pending. types_behind pending types))) bodies) none
+
+-- a column stands first
+pub one_column : (types bodies : List ℕ) (type len : ℕ) → varint_at types ≡ Some (type, len) → 0 < len → len ≤ length types → IsFilled types bodies
+    → columns_in types bodies ≡ content_in type (take (body_len type) bodies) ∷ columns_in (drop len types) (drop (body_len type) bodies)
+one_column types bodies type len found some within filled = (first types bodies type len found some within filled).column
+
+-- its body is there
+pub body_there : (types bodies : List ℕ) (type len : ℕ) → varint_at types ≡ Some (type, len) → 0 < len → len ≤ length types → IsFilled types bodies
+    → body_len type ≤ length bodies
+body_there types bodies type len found some within filled = (first types bodies type len found some within filled).there
+
+-- the columns behind it are filled
+pub filled_behind : (types bodies : List ℕ) (type len : ℕ) → varint_at types ≡ Some (type, len) → 0 < len → len ≤ length types → IsFilled types bodies
+    → IsFilled (drop len types) (drop (body_len type) bodies)
+filled_behind types bodies type len found some within filled = (first types bodies type len found some within filled).filled

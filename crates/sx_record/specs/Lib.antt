@@ -1,0 +1,11 @@
+pub mod Characters
+pub mod Content
+pub mod Escape
+pub mod Layout
+pub mod Places
+pub mod Records
+pub mod SerialTypes
+pub mod Surveys
+pub mod Text
+pub mod Utf16
+pub mod Utf8

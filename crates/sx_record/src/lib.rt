@@ -1,0 +1,24 @@
+//! Records: the columns' values of a payload, without copying, and how a value is written.
+#![tactic(auto)]
+
+mod escape;
+mod fault;
+mod fields;
+mod serial;
+mod survey;
+mod text;
+mod utf16;
+mod utf8;
+mod value;
+mod values;
+
+pub use fault::RecordFault;
+pub use fields::{Fields, read_types, records_both_ways};
+pub use serial::{body_len, is_unused, value_in};
+pub use text::value_text;
+pub use utf8::{each_byte_is_printed_by_its_place, sequences_are_characters};
+pub use value::Value;
+pub use values::Values;
+
+#[cfg(test)]
+mod tests;
