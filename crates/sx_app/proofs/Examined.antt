@@ -1,17 +1,16 @@
 -- How an examination ends: with lines that were written, or with a refusal.
-use Rattle.std.proofs.Common.{◌≡◌, ◌⊎◌, ℕ, ◌≤◌, ◌<◌, Bool, IsTrue, List, [], ◌++◌, take, length, Option, None, Some, Result, Ok, Err, IfSome, IfErr, IsErrOf, OnOk, OnErr, ⊎_elim, arith, refl, sym, ◌∙◌, ap, subst}
+use Rattle.std.proofs.Common.{◌≡◌, ◌⊎◌, ℕ, Bool, List, [], length, Option, None, Some, Result, Ok, Err, IfSome, IfErr, IsErrOf, OnOk, OnErr, ⊎_elim, arith, refl, sym, ap, subst}
 use Rattle.std.proofs.Math.Seq.{take-nil}
-use Rattle.std.specs.Io.KnownBytes.{Appends, Keeps}
+use Rattle.std.specs.Io.KnownBytes.{Appends}
 use Rattle.sx_base.specs.Causes.{Rose}
 use Rattle.sx_base.specs.Files.{Files}
 use Rattle.sx_base.specs.declared.evidence.Part.{Part}
-use Rattle.sx_edge.specs.declared.whole_file.TheConstants.{GREATEST_FILE}
 use Rattle.sx_words.specs.Words.{Asked}
-use Rattle.sx_app.specs.Answers.{reply, reply_over, db_of, part_asked, answered, answer, Answers, Prints, AsksMoment, MayMeetWithin, MayPrepare, MayFollow, MayAnswer, IsUnwritten, HasNumber, Ends, IsAnswered, IsExamined}
+use Rattle.sx_app.specs.Answers.{reply, reply_over, db_of, part_asked, answered, answer, Answers, Prints, MayPrepare, MayFollow, MayAnswer, IsUnwritten, HasNumber, Ends, IsAnswered, IsExamined}
 use Rattle.sx_app.specs.Evidence.{◌>>=◌, Evidence, evidence_of, case_of, Fails, Has, HasUsed, HasCauses, MayMeet}
 use Rattle.sx_app.specs.Texts.{text_of, AppendsSome}
 use Rattle.sx_app.specs.declared.refused.Refused.{Refused}
-use Rattle.sx_app.specs.declared.refused.Refused.TheVariants.{Usage, NoDatabase, BadHeader, TooLarge, NoMoment, Unreadable, NoTable, NoByte, ReadFault, WriteFault, Memory, NoTree}
+use Rattle.sx_app.specs.declared.refused.Refused.TheVariants.{Usage, NoDatabase, BadHeader, TooLarge, NoMoment, Unreadable, NoByte, ReadFault, WriteFault, Memory}
 
 -- ---- over evidence that was opened: lines that were written
 

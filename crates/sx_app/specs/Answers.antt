@@ -1,5 +1,5 @@
 -- The whole answer: a function of the words and of the files, and what an examination makes of it.
-use Rattle.std.specs.Prelude.{◌≡◌, ◌⊎◌, ℕ, ◌<◌, Bool, IsTrue, List, [], Option, None, Some, Result, Ok, Err, IfSome, IfErr, IsErrOf, ⊤}
+use Rattle.std.specs.Prelude.{◌≡◌, ◌⊎◌, ℕ, ◌<◌, Bool, IsTrue, List, Option, None, Some, Result, Ok, Err, IfSome, IfErr, IsErrOf, ⊤}
 use Rattle.std.specs.Io.KnownBytes.{Appends, Keeps}
 use Rattle.sx_base.specs.Causes.{Rose}
 use Rattle.sx_base.specs.Files.{Files}
@@ -15,7 +15,7 @@ use Rattle.sx_app.specs.Refusals.{refusal_text}
 use Rattle.sx_app.specs.Texts.{text_of, AppendsSome}
 use Rattle.sx_app.specs.Timeline.{timeline_lines}
 use Rattle.sx_app.specs.declared.refused.Refused.{Refused}
-use Rattle.sx_app.specs.declared.refused.Refused.TheVariants.{Usage, NoDatabase, BadHeader, TooLarge, NoMoment, Unreadable, NoTable, NoByte, ReadFault, WriteFault, Memory, NoTree}
+use Rattle.sx_app.specs.declared.refused.Refused.TheVariants.{Usage, NoDatabase, BadHeader, TooLarge, NoMoment, Unreadable, NoByte, ReadFault, WriteFault, Memory}
 
 -- the database that the words name
 abbrev pub db_of : Asked → List ℕ

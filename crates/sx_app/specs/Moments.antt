@@ -1,5 +1,5 @@
 -- The moment that the words ask for.
-use Rattle.std.specs.Prelude.{ℕ, if◌then◌else◌, length, Option, None, Some, Result, Ok, Err, ⊤}
+use Rattle.std.specs.Prelude.{if◌then◌else◌, length, Option, None, Some, Result, Ok, Err, ⊤}
 use Rattle.std.specs.List.{last_or}
 use Rattle.sx_base.specs.declared.moment.Moment.{Moment}
 use Rattle.sx_base.specs.declared.moment.Moment.TheVariants.{Journal, File, Commit}

@@ -1,5 +1,5 @@
 -- What `timeline` prints: the database, its write-ahead log, its journal, and a line for each moment.
-use Rattle.std.specs.Prelude.{ℕ, Bool, true, false, List, [], ◌∷◌, ◌++◌, map, length, drop, count_by, codes}
+use Rattle.std.specs.Prelude.{ℕ, Bool, true, false, List, ◌∷◌, ◌++◌, map, length, drop, count_by, codes}
 use Rattle.std.specs.Fmt.{decimal}
 use Rattle.sx_base.specs.Held.{held_pages}
 use Rattle.sx_base.specs.declared.moment.Class.{Class}
