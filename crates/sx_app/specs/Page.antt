@@ -1,18 +1,24 @@
--- What `page` prints: where the bytes of a page stand at a moment.
+-- What `page` prints: where the bytes of a page stand at a moment, and what they are read as.
 use Rattle.std.specs.Prelude.{ℕ, Bool, if◌then◌else◌, List, [], ◌∷◌, ◌++◌, Option, None, Some, Result, Ok, codes}
 use Rattle.std.specs.Fmt.{decimal}
 use Rattle.sx_base.specs.declared.evidence.Place.{Place}
 use Rattle.sx_base.specs.declared.moment.Moment.{Moment}
 use Rattle.sx_moment.specs.Gathered.{Gathered}
 use Rattle.sx_moment.specs.Marks.{is_uncertain}
-use Rattle.sx_moment.specs.Views.{source_of}
+use Rattle.sx_moment.specs.Views.{source_of, view_of}
 use Rattle.sx_words.specs.declared.request.When.{When}
 use Rattle.sx_app.specs.Evidence.{◌>>=◌}
 use Rattle.sx_app.specs.Moments.{moment_of}
+use Rattle.sx_moment.specs.Heads.{layout_of}
+use Rattle.sx_node.specs.Nodes.{node_of}
+use Rattle.sx_app.specs.NodeText.{node_fault_line, node_lines}
+use Rattle.sx_app.specs.NodeRest.{node_rest}
 use Rattle.sx_app.specs.Texts.{part_name}
 use Rattle.sx_app.specs.declared.page.PageLines.{PageLines}
 use Rattle.sx_app.specs.declared.page.PageLine.{PageLine}
-use Rattle.sx_app.specs.declared.page.PageLine.TheVariants.{First, End}
+use Rattle.sx_app.specs.declared.page.PageLine.TheVariants.{First, Body}
+use Rattle.sx_app.specs.declared.page_body.PageBody.{PageBody}
+use Rattle.sx_app.specs.declared.page_body.PageBody.TheVariants.{End, Fault, Node}
 use Rattle.sx_app.specs.declared.refused.Refused.{Refused}
 
 -- the mark of a page that a checkpoint may have written over
@@ -31,19 +37,32 @@ source_line number (Some place) uncertain =
     ++ decimal place.offset
     ++ mark_text uncertain
 
+-- the lines behind the first: the view read as a page of a b-tree, or none where there is no view
+abbrev pub page_body : ℕ → ℕ → Option (List ℕ) → List (List ℕ)
+page_body number usable None = []
+page_body number usable (Some page) = node_lines (node_of page number usable)
+
 -- all lines over a page at a moment
 abbrev pub page_lines : Gathered → Moment → ℕ → List (List ℕ)
-page_lines case moment number = source_line number (source_of case moment number) (is_uncertain case moment number) ∷ []
+page_lines case moment number =
+    source_line number (source_of case moment number) (is_uncertain case moment number)
+    ∷ page_body number (layout_of case moment).usable (view_of case moment number)
 
 -- the lines that are asked for over a page, or why there are none
 abbrev pub page_reply : Gathered → ℕ → When → Result (List (List ℕ)) Refused
 page_reply case number at = moment_of case at >>= λ moment. Ok (page_lines case moment number)
 
+-- the lines behind the first that are to come
+abbrev pub body_rest : PageBody → List (List ℕ)
+body_rest End = []
+body_rest (Fault fault) = node_fault_line fault ∷ []
+body_rest (Node lines) = node_rest lines
+
 -- the lines from one on
-abbrev pub page_lines_from : PageLine → ℕ → Option Place → Bool → List (List ℕ)
-page_lines_from First number source uncertain = source_line number source uncertain ∷ []
-page_lines_from End number source uncertain = []
+abbrev pub page_lines_from : PageLine → ℕ → Option Place → Bool → PageBody → List (List ℕ)
+page_lines_from First number source uncertain body = source_line number source uncertain ∷ body_rest body
+page_lines_from Body number source uncertain body = body_rest body
 
 -- the lines to come
 abbrev pub page_rest : PageLines → List (List ℕ)
-page_rest lines = page_lines_from lines.next lines.number lines.source lines.uncertain
+page_rest lines = page_lines_from lines.next lines.number lines.source lines.uncertain lines.body

@@ -10,6 +10,7 @@ mod moments;
 mod node_lines;
 mod node_text;
 mod page;
+mod page_body;
 mod prepared;
 mod refusals;
 mod refused;

@@ -7,6 +7,7 @@ ghost use Rattle.sx_app.specs.Texts.{ended};
 
 use crate::lines::Lines;
 use crate::moments::snapshot_asked;
+use crate::page_body::PageBody;
 use crate::refused::Refused;
 use crate::texts::part_name;
 use std::alloc::AllocError;
@@ -15,11 +16,12 @@ use sx_moment::{Case, Snapshot};
 use sx_words::When;
 
 /// The lines of `page` that are still to come.
-#[derive(Clone, Copy)]
-pub struct PageLines {
+#[derive(Drop)]
+pub struct PageLines<'a> {
     number: u32,
     source: Option<Place>,
     uncertain: bool,
+    body: PageBody<'a>,
     next: PageLine,
 }
 
@@ -28,26 +30,27 @@ pub struct PageLines {
 pub enum PageLine {
     /// Where the page's view begins, or that it has none.
     First,
-    /// There is none.
-    End,
+    /// What stands behind that line.
+    Body,
 }
 
-impl PageLines {
-    /// All lines over page `no` of a snapshot. The cost is that of finding the page.
-    pub fn new(snapshot: &Snapshot<'_, '_>, no: u32) -> Self
+impl<'a> PageLines<'a> {
+    /// All lines over page `no` of a snapshot. The cost is that of finding the page and its head.
+    pub fn new(snapshot: &Snapshot<'_, 'a>, no: u32) -> Self
         ensures { page_rest result ≡ page_lines snapshot.now.case.now snapshot.now.moment no }
     {
         PageLines {
             number: no,
             source: snapshot.source(no),
             uncertain: snapshot.uncertain(no),
+            body: PageBody::new(snapshot, no),
             next: PageLine::First,
         }
     }
 }
 
 /// All lines over page `no` at the moment that is asked for.
-pub fn prepare_page(case: &Case<'_>, no: u32, at: When) -> Result<PageLines, Refused>
+pub fn prepare_page<'a>(case: &Case<'a>, no: u32, at: When) -> Result<PageLines<'a>, Refused>
     ensures told { Gives page_rest result (page_reply case.now no at) }
     ensures may { IfErr result (MayMiss at) }
 {
@@ -84,7 +87,7 @@ fn put_source_line(
     }
 }
 
-impl Lines for PageLines {
+impl Lines for PageLines<'_> {
     ghost use Rattle.sx_app.specs.Page.{page_rest};
 
     ghost lines = { page_rest };
@@ -93,10 +96,10 @@ impl Lines for PageLines {
         match self.next {
             PageLine::First => {
                 put_source_line(self.number, self.source, self.uncertain, line)?;
-                self.next = PageLine::End;
+                self.next = PageLine::Body;
                 Ok(true)
             }
-            PageLine::End => Ok(false),
+            PageLine::Body => self.body.next_line(line),
         }
     }
 }

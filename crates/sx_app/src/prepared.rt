@@ -23,7 +23,7 @@ use sx_words::Request;
 #[derive(Drop)]
 pub enum Prepared<'a> {
     Timeline(TimelineLines<'a>),
-    Page(PageLines),
+    Page(PageLines<'a>),
 }
 
 /// Gathers the evidence, and decides whether a request has an answer over it.
