@@ -11,6 +11,7 @@ use Rattle.sx_edge.specs.declared.whole_file.TheConstants.{GREATEST_FILE}
 use Rattle.sx_header.specs.Header.{header_of}
 use Rattle.sx_header.specs.declared.header.Header.{Header}
 use Rattle.sx_header.specs.declared.header.HeaderFault.{HeaderFault}
+use Rattle.sx_moment.specs.Gathered.{Gathered, gathered}
 use Rattle.sx_app.specs.declared.database.Database.{Database as LoadedDatabase}
 use Rattle.sx_app.specs.declared.loaded.Companions.{Companions as LoadedCompanions}
 use Rattle.sx_app.specs.declared.loaded.Loaded.{Loaded}
@@ -82,6 +83,10 @@ evidence_of files db =
     database_of files db
     >>= λ database. companions_of files db
     >>= λ beside. Ok (record { database = database; wal = beside.wal; journal = beside.journal })
+
+-- the evidence with its moments
+abbrev pub case_of : Evidence → Gathered
+case_of evidence = gathered evidence.database.header evidence.database.bytes evidence.wal evidence.journal
 
 -- a function's answer, seen by view, is what the definition gives, unless the store failed or memory ran out
 abbrev pub Fails : {Y : Type 0} → Refused → Result Y Refused → Type 0

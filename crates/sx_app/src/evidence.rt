@@ -1,15 +1,17 @@
-//! The evidence that the words name, opened and loaded.
-ghost use Rattle.std.specs.Prelude.{◌≡◌, ◌++◌, IfOk, IfErr, IfSome};
+//! The evidence that the words name, opened, loaded and gathered.
+ghost use Rattle.std.specs.Prelude.{◌≡◌, ◌≤◌, ◌++◌, length, IfOk, IfErr, IfSome};
 ghost use Rattle.sx_base.specs.Files.{file_named};
-ghost use Rattle.sx_app.specs.Evidence.{database_in, database_of, companion_in, companions_of, evidence_of, opened_by, bytes_by, companions_by, evidence_by, Gives, HasCauses, HasUsed, IsWithin, MayMeet, MayMeetBeside};
+ghost use Rattle.sx_edge.specs.declared.whole_file.TheConstants.{GREATEST_FILE};
+ghost use Rattle.sx_app.specs.Evidence.{database_in, database_of, companion_in, companions_of, evidence_of, opened_by, bytes_by, companions_by, evidence_by, case_of, Gives, HasCauses, HasUsed, IsWithin, MayMeet, MayMeetBeside};
 
 use crate::database::Database;
 use crate::loaded::{Companions, Loaded};
 use crate::refused::Refused;
-use std::alloc::Global;
+use std::alloc::{AllocError, Global};
 use sx_base::Part;
 use sx_edge::{LoadRefused, Store, load};
 use sx_header::read_header;
+use sx_moment::{Case, Evidence};
 
 /// Opens the evidence of a database's name: the database, its write-ahead log and its journal are read, in this order.
 ///
@@ -49,6 +51,7 @@ fn open_database<S: Store>(alloc: Global, store: &mut S, db: &str) -> Result<Dat
 fn load_database<S: Store>(alloc: Global, store: &mut S, db: &str) -> Result<Vec<u8>, Refused>
     ensures contents { S.contents store.new ≡ S.contents store.old }
     ensures told { IfSome (S.contents store.old) (λ files. Gives (λ bytes. bytes.items) result (database_in (file_named files db.now))) }
+    ensures small { IfOk result (λ bytes. length bytes.items ≤ GREATEST_FILE) }
     ensures causes { HasCauses (S.faults store.old) (S.faults store.new) (S.absent store.new) (S.given store.new) result }
     ensures may { IfErr result MayMeet }
     ensures used { HasUsed (S.contents store.old) db.now result }
@@ -98,4 +101,17 @@ fn load_companion<S: Store>(
         Err(LoadRefused::ReadFault) => Err(Refused::ReadFault),
         Err(LoadRefused::Memory) => Err(Refused::Memory),
     }
+}
+
+/// The evidence with its moments. The cost is that of reading the write-ahead log and the journal once, and of
+/// comparing each page of a committed frame with that of the file.
+pub fn gather(alloc: Global, loaded: &Loaded) -> Result<Case<'_>, AllocError>
+    ensures { IfOk result (λ case. case ≡ case_of (evidence_by loaded.now)) }
+{
+    let evidence = Evidence {
+        database: loaded.database.bytes.as_slice(),
+        wal: loaded.beside.wal_bytes(),
+        journal: loaded.beside.journal_bytes(),
+    };
+    Case::gather(alloc, loaded.database.header, evidence)
 }

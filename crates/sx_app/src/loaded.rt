@@ -1,6 +1,6 @@
 //! Evidence as it was loaded.
 ghost use Rattle.std.specs.Prelude.{◌≡◌, ◌≤◌, length};
-ghost use Rattle.std.specs.Option.{option_map, ForSome};
+ghost use Rattle.std.specs.Option.{option_copied, ForSome};
 ghost use Rattle.sx_edge.specs.declared.whole_file.TheConstants.{GREATEST_FILE};
 
 use crate::database::Database;
@@ -30,7 +30,7 @@ impl Companions {
 
     /// The bytes of the write-ahead log, where there is one.
     pub fn wal_bytes(&self) -> Option<&[u8]>
-        ensures bytes { option_map (λ file. file.now) result ≡ bytes_by self.now.wal }
+        ensures bytes { option_copied result ≡ bytes_by self.now.wal }
         ensures small { ForSome result (λ file. length file.now ≤ GREATEST_FILE) }
     {
         match &self.wal {
@@ -41,7 +41,7 @@ impl Companions {
 
     /// The bytes of the rollback journal, where there is one.
     pub fn journal_bytes(&self) -> Option<&[u8]>
-        ensures bytes { option_map (λ file. file.now) result ≡ bytes_by self.now.journal }
+        ensures bytes { option_copied result ≡ bytes_by self.now.journal }
         ensures small { ForSome result (λ file. length file.now ≤ GREATEST_FILE) }
     {
         match &self.journal {

@@ -29,61 +29,131 @@ fn journal(alloc: Global) -> Result<Vec<u8>, Fail> {
     Ok(bytes)
 }
 
+// The first two lines over a database of two pages without a log.
+const DATABASE: &str =
+    "database pagesize 512 usable 512 pages 2\nwal absent frames 0 committed 0 pending 0 foreign 0 broken 0\n";
+
 #[test]
-fn a_journal_gives_its_line(rt: HostRuntime) -> Result<(), Fail> {
+fn a_live_journal_gives_back_what_its_good_records_hold(rt: HostRuntime) -> Result<(), Fail> {
     let alloc = rt.alloc();
-    let cases = [
-        (0, 217, 0, "short records 0 good 0"),
-        (0, 217, 27, "short records 0 good 0"),
-        (0, 217, 28, "live records 0 good 0"),
-        (0, 217, 1031, "live records 0 good 0"),
-        (0, 217, 1032, "live records 1 good 1"),
-        (0, 217, 2567, "live records 1 good 1"),
-        (0, 217, 2568, "live records 2 good 2"),
-        (0, 217, 3088, "live records 3 good 2"),
-        (600, 1, 3088, "live records 3 good 2"),
-        (628, 1, 3088, "live records 3 good 0"),
-        (26, 4, 3088, "alien records 0 good 0"),
-        (0, 0, 3088, "alien records 0 good 0"),
-    ];
     let database = second_row_deleted(alloc)?;
-    for (at, byte, len, line) in cases {
+    for (at, byte, len, line) in [
+        (0, 217, 28, "records 0 good 0"),
+        (0, 217, 1031, "records 0 good 0"),
+        (0, 217, 1032, "records 1 good 1"),
+        (0, 217, 2567, "records 1 good 1"),
+        (0, 217, 2568, "records 2 good 2"),
+        (0, 217, 3088, "records 3 good 2"),
+        (600, 1, 3088, "records 3 good 2"),
+        (628, 1, 3088, "records 3 good 0"),
+    ] {
         let mut bytes = journal(alloc)?;
         if let Some(place) = bytes.get_mut(at) {
             *place = byte;
         }
-        check_line(&rt, alloc, &database, bytes.get(..len).unwrap_or(&[]), line)?;
+        let front = bytes.get(..len).unwrap_or(&[]);
+        let text = format!(in alloc;
+            "{DATABASE}journal live {line}\njournal pages 2 held 2 uncertain 0\n0 pages 2 held 2 uncertain 0\n"
+        )?;
+        let named: [(&str, &[u8]); 2] = [("a.db", database.as_slice()), ("a.db-journal", front)];
+        check(&rt, alloc, &named, &["a.db", "timeline"], 0, text.as_str())?;
     }
+    let bytes = journal(alloc)?;
+    let named: [(&str, &[u8]); 2] = [
+        ("a.db", database.as_slice()),
+        ("a.db-journal", bytes.as_slice()),
+    ];
+    for (no, at, text) in [
+        ("no=2", "at=journal", "page 2 from journal offset 516\n"),
+        ("no=1", "at=journal", "page 1 from journal offset 2052\n"),
+        ("no=3", "at=journal", "page 3 absent\n"),
+        ("no=2", "at=0", "page 2 from database offset 512\n"),
+    ] {
+        check(&rt, alloc, &named, &["a.db", "page", no, at], 0, text)?;
+    }
+    check(
+        &rt,
+        alloc,
+        &named,
+        &["a.db", "page", "no=2"],
+        0,
+        "page 2 from database offset 512\n",
+    )?;
+    Ok(())
+}
+
+#[test]
+fn another_journal_gives_no_moment(rt: HostRuntime) -> Result<(), Fail> {
+    let alloc = rt.alloc();
     let mut zeroed = journal(alloc)?;
     for at in 0..28 {
         if let Some(place) = zeroed.get_mut(at) {
             *place = 0;
         }
     }
-    check_line(
-        &rt,
-        alloc,
-        &database,
-        zeroed.get(..1032).unwrap_or(&[]),
-        "zeroed records 1 good 0",
-    )?;
+    check_no_moment(&rt, alloc, &zeroed, 1032, "zeroed records 1 good 0")?;
+    check_no_moment(&rt, alloc, &zeroed, 27, "short records 0 good 0")?;
+    check_no_moment(&rt, alloc, &zeroed, 0, "short records 0 good 0")?;
+    let mut other_page_size = journal(alloc)?;
+    if let Some(place) = other_page_size.get_mut(26) {
+        *place = 4;
+    }
+    check_no_moment(&rt, alloc, &other_page_size, 3088, "alien records 0 good 0")?;
     Ok(())
 }
 
-// Whether `timeline` prints this line for the journal.
-fn check_line(
+// Whether the front of a journal of that length gives this line, and no moment.
+fn check_no_moment(
     rt: &impl Abort,
     alloc: Global,
-    database: &[u8],
-    journal: &[u8],
+    bytes: &[u8],
+    len: usize,
     line: &str,
 ) -> Result<(), Fail> {
-    let named: [(&str, &[u8]); 2] = [("a.db", database), ("a.db-journal", journal)];
-    let (ended, out) = examined(rt, alloc, &named, &[], AMPLE, &["a.db", "timeline"])?;
+    let database = second_row_deleted(alloc)?;
+    let front = bytes.get(..len).unwrap_or(&[]).to_vec(alloc)?;
+    let text = format!(in alloc; "{DATABASE}journal {line}\n0 pages 2 held 2 uncertain 0\n")?;
+    let named: [(&str, &[u8]); 2] = [
+        ("a.db", database.as_slice()),
+        ("a.db-journal", front.as_slice()),
+    ];
+    check(rt, alloc, &named, &["a.db", "timeline"], 0, text.as_str())?;
+    check(
+        rt,
+        alloc,
+        &named,
+        &["a.db", "page", "no=2", "at=journal"],
+        5,
+        "refused: no such moment; the last is 0\n",
+    )
+}
+
+#[test]
+fn a_record_behind_a_bad_one_gives_nothing_back(rt: HostRuntime) -> Result<(), Fail> {
+    let alloc = rt.alloc();
+    let bytes = journal(alloc)?;
+    let mut exchanged = Vec::new(alloc);
+    for (from, to) in [(0, 2048), (2568, 3088), (2048, 2568)] {
+        exchanged.extend_from_slice(bytes.get(from..to).unwrap_or(&[]))?;
+    }
+    let mut database = empty_database(alloc)?;
+    let changed = second_row_deleted(alloc)?;
+    database.extend_from_slice(changed.get(512..).unwrap_or(&[]))?;
     let text = format!(in alloc;
-        "database pagesize 512 usable 512 pages 2\nwal absent frames 0 committed 0 pending 0 foreign 0 broken 0\njournal {line}\n0 pages 2\n"
+        "{DATABASE}journal live records 3 good 1\njournal pages 2 held 2 uncertain 0\n0 pages 1 held 1 uncertain 0\n"
     )?;
-    assert_eq!(rt; ended, 0, "{line}");
-    assert_eq!(rt; out.taken(), text.as_bytes());
+    let named: [(&str, &[u8]); 2] = [
+        ("a.db", database.as_slice()),
+        ("a.db-journal", exchanged.as_slice()),
+    ];
+    check(&rt, alloc, &named, &["a.db", "timeline"], 0, text.as_str())?;
+    check(
+        &rt,
+        alloc,
+        &named,
+        &["a.db", "page", "no=1", "at=journal"],
+        0,
+        "page 1 from database offset 0\n",
+    )?;
     Ok(())
 }
