@@ -1,10 +1,10 @@
 #!/bin/sh
-# Makes the two small cases of this folder anew, with the stock command line of SQLite (3.40 or later):
+# Makes the four small cases of this folder anew, with the stock command line of SQLite (3.40 or later):
 #
 #     sh make.sh FOLDER
 #
-# Each session leaves its write-ahead log beside the database, as a program does that was cut off: the log isn't
-# checkpointed when the session ends. The salts of a log are drawn at random, so no two runs give the same bytes.
+# Each session leaves its write-ahead log or its journal beside the database, as a program does that was cut off. The
+# salts of a log and the nonces of a journal are drawn at random, so no two runs give the same bytes.
 set -eu
 
 folder=${1:?usage: sh make.sh FOLDER}
@@ -13,7 +13,9 @@ if ! command -v sqlite3 >/dev/null; then
     exit 1
 fi
 mkdir -p "$folder"
-rm -f "$folder"/chat.db* "$folder"/restarted.db*
+for case in chat restarted checkpointed interrupted; do
+    rm -f "$folder/$case".db*
+done
 
 # A session on a database. Its answers, such as the journal's mode, aren't of interest.
 session() {
@@ -45,16 +47,21 @@ DELETE FROM message WHERE id = 4;
 SQL
 }
 
-# A chat of which messages were edited and deleted, with six commits that are not yet in the database file.
-begin chat.db
-session chat.db <<SQL
-$(four_changes)
+# Two further changes.
+six_changes() {
+    four_changes
+    cat <<'SQL'
 BEGIN;
 INSERT INTO person VALUES (4, 'Dana');
 INSERT INTO message VALUES (5, 4, '2026-11-02 19:05', 'Who has the key?');
 COMMIT;
 DELETE FROM message WHERE sender = 2;
 SQL
+}
+
+# A chat of which messages were edited and deleted, with six commits that are not yet in the database file.
+begin chat.db
+six_changes | session chat.db
 
 # The same chat, whose log was checkpointed and begun again: behind the frames of its two new commits stand frames of
 # the older run.
@@ -65,3 +72,29 @@ PRAGMA wal_checkpoint(RESTART);
 INSERT INTO message VALUES (5, 3, '2026-11-03 07:30', 'Parcel collected.');
 DELETE FROM message WHERE id = 1;
 SQL
+
+# The chat of six changes, whose log was checkpointed and left as it was: the database file holds what the last commit
+# left.
+begin checkpointed.db
+session checkpointed.db <<SQL
+$(six_changes)
+PRAGMA wal_checkpoint(PASSIVE);
+SQL
+
+# Sixty notices in a database with a rollback journal. A session overwrites each of them and is cut off before its
+# commit: both files are copied while it runs. Its cache is so small that pages are written to the database at once.
+session office.db <<'SQL'
+PRAGMA page_size = 512;
+CREATE TABLE notice(id INTEGER PRIMARY KEY, sent TEXT, body TEXT);
+WITH RECURSIVE count(i) AS (SELECT 1 UNION ALL SELECT i + 1 FROM count WHERE i < 60)
+INSERT INTO notice SELECT i, printf('2026-11-%02d 08:%02d', 1 + i / 4, i), 'Parcel ' || i || ' is in locker ' || (i * 37 % 90 + 10) || '.' FROM count;
+SQL
+session office.db <<SQL
+PRAGMA cache_size = 1;
+BEGIN;
+UPDATE notice SET body = 'removed';
+.system cp "$folder/office.db" "$folder/interrupted.db"
+.system cp "$folder/office.db-journal" "$folder/interrupted.db-journal"
+ROLLBACK;
+SQL
+rm -f "$folder/office.db"

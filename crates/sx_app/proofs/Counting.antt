@@ -1,11 +1,12 @@
 -- Counting the slots of a class, one slot after the other.
-use Rattle.std.proofs.Common.{◌≡◌, ℕ, ◌+◌, ◌≤◌, ◌<◌, Bool, true, false, cond, List, length, take, count_by, Some, refl, sym, ◌∙◌, ap, arith}
+use Rattle.std.proofs.Common.{◌≡◌, ℕ, ◌+◌, ◌≤◌, ◌<◌, Bool, true, false, cond, List, length, take, Some, refl, sym, ◌∙◌, ap, arith}
 use Rattle.std.specs.Prelude.{slice_get}
-use Rattle.std.proofs.lemmas.List.Sums.{count_by_more_yes, count_by_more_no, count_by-le-length}
+use Rattle.std.proofs.lemmas.List.Sums.{count_by_more_yes, count_by_more_no}
 use Rattle.std.proofs.lemmas.Option.{get_or_from_slice_get}
 use Rattle.sx_base.specs.declared.moment.Class.{Class}
+use Rattle.sx_moment.specs.Gathered.{no_slot}
 use Rattle.sx_wal.specs.declared.slot.Slot.{Slot}
-use Rattle.sx_app.specs.Timeline.{count_of, tally_of, is_committed, is_pending, is_foreign, is_broken, no_slot}
+use Rattle.sx_app.specs.Timeline.{count_of, tally_of, is_committed, is_pending, is_foreign, is_broken}
 use Rattle.sx_app.specs.declared.tally.Tally.{Tally}
 use Rattle.std.proofs.Math.ListN.{get_or}
 

@@ -2,4 +2,4 @@ pub mod Writing
 pub mod Numbers
 pub mod Examined
 pub mod Counting
-pub mod Commits
+pub mod MomentLines

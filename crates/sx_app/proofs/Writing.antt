@@ -1,10 +1,10 @@
 -- A text that is written line by line: what the sink has taken, and the lines that are still to come.
-use Rattle.std.proofs.Common.{◌≡◌, ℕ, ◌+◌, ◌≤◌, true, List, [], ◌∷◌, ◌++◌, length, take, Option, Result, Ok, Err, OnErr, refl, sym, ◌∙◌, ap, subst, arith, append_assoc, append-nil, length-append}
+use Rattle.std.proofs.Common.{◌≡◌, ℕ, ◌+◌, ◌≤◌, true, List, [], ◌++◌, length, take, Option, Result, Ok, Err, OnErr, refl, sym, ◌∙◌, ap, subst, arith, append_assoc, append-nil, length-append}
 use Rattle.std.proofs.Math.Seq.{take-append_seam, take-append-add}
 use Rattle.std.proofs.lemmas.List.{take-append-le}
 use Rattle.std.proofs.KnownBytes.{Appends-nil, Appends-trans}
 use Rattle.std.specs.Io.KnownBytes.{Appends}
-use Rattle.sx_app.specs.Texts.{ended, text_of, IsNextLine, AppendsSome}
+use Rattle.sx_app.specs.Texts.{text_of, IsNextLine, AppendsSome}
 
 -- of the text of all lines a front was taken, and the text of the rest is still to come
 pub record IsWritten (old now : Option (List ℕ)) (whole rest : List (List ℕ)) : Type 0 where

@@ -6,15 +6,17 @@ use Rattle.std.specs.declared.vec.Vec.{Vec}
 use Rattle.sx_base.specs.Causes.{Rose}
 use Rattle.sx_base.specs.Files.{Files, file_named}
 use Rattle.sx_base.specs.declared.evidence.Part.{Part}
-use Rattle.sx_base.specs.declared.evidence.Part.TheVariants.{Database, Wal}
+use Rattle.sx_base.specs.declared.evidence.Part.TheVariants.{Database, Wal, Journal}
 use Rattle.sx_edge.specs.declared.whole_file.TheConstants.{GREATEST_FILE}
 use Rattle.sx_header.specs.Header.{header_of}
 use Rattle.sx_header.specs.declared.header.Header.{Header}
 use Rattle.sx_header.specs.declared.header.HeaderFault.{HeaderFault}
+use Rattle.sx_moment.specs.Gathered.{Gathered, gathered}
 use Rattle.sx_app.specs.declared.database.Database.{Database as LoadedDatabase}
+use Rattle.sx_app.specs.declared.loaded.Companions.{Companions as LoadedCompanions}
 use Rattle.sx_app.specs.declared.loaded.Loaded.{Loaded}
 use Rattle.sx_app.specs.declared.refused.Refused.{Refused}
-use Rattle.sx_app.specs.declared.refused.Refused.TheVariants.{NoDatabase, BadHeader, TooLarge, ReadFault, Memory, NotBuilt}
+use Rattle.sx_app.specs.declared.refused.Refused.TheVariants.{NoDatabase, BadHeader, TooLarge, ReadFault, Memory}
 
 -- one step, and the next where it didn't refuse
 infixl 10 ◌>>=◌
@@ -27,10 +29,16 @@ pub record Opened : Type 0 where
   pub header : Header
   pub bytes : List ℕ
 
+-- the files that may lie beside a database
+pub record Companions : Type 0 where
+  pub wal : Option (List ℕ)
+  pub journal : Option (List ℕ)
+
 -- a database with what lies beside it
 pub record Evidence : Type 0 where
   pub database : Opened
   pub wal : Option (List ℕ)
+  pub journal : Option (List ℕ)
 
 -- a file's bytes, of which there are at most 2 ^ 30
 abbrev pub within_limit : Part → List ℕ → Result (List ℕ) Refused
@@ -57,25 +65,28 @@ wal_name db = db ++ codes "-wal"
 abbrev pub journal_name : List ℕ → List ℕ
 journal_name db = db ++ codes "-journal"
 
--- the bytes of the write-ahead log, where there is one
-unfoldable pub wal_in : Option (List ℕ) → Result (Option (List ℕ)) Refused
-wal_in None = Ok None
-wal_in (Some bytes) = within_limit Wal bytes >>= λ whole. Ok (Some whole)
+-- the bytes of a file beside the database, where there is one
+unfoldable pub companion_in : Part → Option (List ℕ) → Result (Option (List ℕ)) Refused
+companion_in part None = Ok None
+companion_in part (Some bytes) = within_limit part bytes >>= λ whole. Ok (Some whole)
 
--- there is no journal
-unfoldable pub journal_in : Option (List ℕ) → Result (Unit {0}) Refused
-journal_in None = Ok tt
-journal_in (Some bytes) = Err NotBuilt
-
--- the write-ahead log, where there is one, and no journal
-unfoldable pub companions_of : Files → List ℕ → Result (Option (List ℕ)) Refused
+-- the write-ahead log and the journal, each where there is one
+unfoldable pub companions_of : Files → List ℕ → Result Companions Refused
 companions_of files db =
-    wal_in (file_named files (wal_name db)) >>= λ wal. journal_in (file_named files (journal_name db)) >>= λ _. Ok wal
+    companion_in Wal (file_named files (wal_name db))
+    >>= λ wal. companion_in Journal (file_named files (journal_name db))
+    >>= λ journal. Ok (record { wal = wal; journal = journal })
 
 -- the evidence of a database's name
 unfoldable pub evidence_of : Files → List ℕ → Result Evidence Refused
 evidence_of files db =
-    database_of files db >>= λ database. companions_of files db >>= λ wal. Ok (record { database = database; wal = wal })
+    database_of files db
+    >>= λ database. companions_of files db
+    >>= λ beside. Ok (record { database = database; wal = beside.wal; journal = beside.journal })
+
+-- the evidence with its moments
+abbrev pub case_of : Evidence → Gathered
+case_of evidence = gathered evidence.database.header evidence.database.bytes evidence.wal evidence.journal
 
 -- a function's answer, seen by view, is what the definition gives, unless the store failed or memory ran out
 abbrev pub Fails : {Y : Type 0} → Refused → Result Y Refused → Type 0
@@ -114,7 +125,6 @@ MayMeet (BadHeader fault) = ⊤
 MayMeet (TooLarge part) = ⊤
 MayMeet ReadFault = ⊤
 MayMeet Memory = ⊤
-MayMeet NotBuilt = ⊤
 MayMeet refused = ⊥
 
 -- what a companion can meet
@@ -122,7 +132,6 @@ abbrev pub MayMeetBeside : Refused → Type 0
 MayMeetBeside (TooLarge part) = ⊤
 MayMeetBeside ReadFault = ⊤
 MayMeetBeside Memory = ⊤
-MayMeetBeside NotBuilt = ⊤
 MayMeetBeside refused = ⊥
 
 -- a database as it was loaded, without where it lies in memory
@@ -133,9 +142,17 @@ opened_by database = record { header = database.header; bytes = database.bytes.i
 abbrev pub bytes_by : Option (Vec ℕ Global) → Option (List ℕ)
 bytes_by file = option_map (λ bytes. bytes.items) file
 
+-- the files beside a database as they were loaded
+abbrev pub companions_by : LoadedCompanions → Companions
+companions_by beside = record { wal = bytes_by beside.wal; journal = bytes_by beside.journal }
+
 -- the evidence as it was loaded
 abbrev pub evidence_by : Loaded → Evidence
-evidence_by loaded = record { database = opened_by loaded.database; wal = bytes_by loaded.wal }
+evidence_by loaded = record {
+  database = opened_by loaded.database;
+  wal = bytes_by loaded.beside.wal;
+  journal = bytes_by loaded.beside.journal;
+}
 
 -- a file that was loaded has at most so many bytes
 abbrev pub IsWithin : Option (Vec ℕ Global) → Type 0

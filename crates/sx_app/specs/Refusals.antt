@@ -2,26 +2,11 @@
 use Rattle.std.specs.Prelude.{ℕ, List, [], ◌∷◌, ◌++◌, codes, Result, Ok, Err}
 use Rattle.std.specs.Fmt.{decimal}
 use Rattle.sx_base.specs.declared.evidence.Part.{Part}
-use Rattle.sx_base.specs.declared.evidence.Part.TheVariants as parts
-use Rattle.sx_base.specs.declared.moment.Moment.{Moment}
-use Rattle.sx_base.specs.declared.moment.Moment.TheVariants as moments
 use Rattle.sx_header.specs.declared.header.HeaderFault.{HeaderFault}
 use Rattle.sx_header.specs.declared.header.HeaderFault.TheVariants as faults
 use Rattle.sx_app.specs.declared.refused.Refused.{Refused}
-use Rattle.sx_app.specs.declared.refused.Refused.TheVariants.{Usage, NoDatabase, BadHeader, TooLarge, NoMoment, Unreadable, NoTable, NoByte, ReadFault, WriteFault, Memory, NoTree, NotBuilt}
-use Rattle.sx_app.specs.Texts.{text_of}
-
--- a part's name
-abbrev pub part_name : Part → List ℕ
-part_name parts.Database = codes "database"
-part_name parts.Wal = codes "wal"
-part_name parts.Journal = codes "journal"
-
--- a moment's word
-abbrev pub moment_word : Moment → List ℕ
-moment_word moments.Journal = codes "journal"
-moment_word moments.File = codes "0"
-moment_word (moments.Commit k) = decimal k
+use Rattle.sx_app.specs.declared.refused.Refused.TheVariants.{Usage, NoDatabase, BadHeader, TooLarge, NoMoment, Unreadable, NoTable, NoByte, ReadFault, WriteFault, Memory, NoTree}
+use Rattle.sx_app.specs.Texts.{text_of, part_name, moment_word}
 
 -- the name of a header's fault
 abbrev pub fault_name : HeaderFault → List ℕ
@@ -53,7 +38,6 @@ refusal_lines part (Unreadable moment) = refusal (codes "page 1 is unreadable at
 refusal_lines part NoTable = refusal (codes "no such table")
 refusal_lines part NoTree = refusal (codes "table has no tree")
 refusal_lines part (NoByte length) = refusal (part_name part ++ codes " has " ++ decimal length ++ codes " bytes")
-refusal_lines part NotBuilt = refusal (codes "not built yet")
 refusal_lines part ReadFault = []
 refusal_lines part WriteFault = []
 refusal_lines part Memory = []
@@ -77,4 +61,3 @@ status_of (Err ReadFault) = 9
 status_of (Err WriteFault) = 10
 status_of (Err Memory) = 11
 status_of (Err NoTree) = 12
-status_of (Err NotBuilt) = 13

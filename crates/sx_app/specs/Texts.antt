@@ -1,7 +1,12 @@
--- Texts: lists of lines, and their bytes.
-use Rattle.std.specs.Prelude.{◌≡◌, ℕ, ◌<◌, ◌≤◌, Bool, true, false, List, [], ◌∷◌, ◌++◌, length, take, Option}
+-- Texts: lists of lines, and their bytes; the words that several of them have.
+use Rattle.std.specs.Prelude.{◌≡◌, ℕ, ◌≤◌, Bool, true, false, List, [], ◌∷◌, ◌++◌, length, take, codes, Option}
+use Rattle.std.specs.Fmt.{decimal}
 use Rattle.std.specs.List.{flat_map}
 use Rattle.std.specs.Io.KnownBytes.{Appends}
+use Rattle.sx_base.specs.declared.evidence.Part.{Part}
+use Rattle.sx_base.specs.declared.evidence.Part.TheVariants as parts
+use Rattle.sx_base.specs.declared.moment.Moment.{Moment}
+use Rattle.sx_base.specs.declared.moment.Moment.TheVariants as moments
 
 -- a line with its end, a line feed
 abbrev pub ended : List ℕ → List ℕ
@@ -19,3 +24,15 @@ AppendsSome old new text = (n : ℕ) × (n ≤ length text) × Appends old new (
 abbrev pub IsNextLine : List (List ℕ) → List (List ℕ) → List ℕ → Bool → Type 0
 IsNextLine old new line true = (first : List ℕ) × (old ≡ first ∷ new) × (line ≡ ended first)
 IsNextLine old new line false = old ≡ []
+
+-- a part's name
+abbrev pub part_name : Part → List ℕ
+part_name parts.Database = codes "database"
+part_name parts.Wal = codes "wal"
+part_name parts.Journal = codes "journal"
+
+-- a moment's word
+abbrev pub moment_word : Moment → List ℕ
+moment_word moments.Journal = codes "journal"
+moment_word moments.File = codes "0"
+moment_word (moments.Commit k) = decimal k

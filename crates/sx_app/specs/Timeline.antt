@@ -1,39 +1,37 @@
 -- What `timeline` prints: the database, its write-ahead log, its journal, and a line for each moment.
-use Rattle.std.specs.Prelude.{ℕ, ◌+◌, ◌-◌, ◌/◌, ◌==◌, ◌&&◌, not, Bool, true, false, if◌then◌else◌, List, [], ◌∷◌, ◌++◌, map, length, slice_index, slice_index_or, count_by, codes}
+use Rattle.std.specs.Prelude.{ℕ, Bool, true, false, List, ◌∷◌, ◌++◌, map, length, drop, count_by, codes}
 use Rattle.std.specs.Fmt.{decimal}
-use Rattle.std.specs.List.{range_with_len}
+use Rattle.sx_base.specs.Held.{held_pages}
 use Rattle.sx_base.specs.declared.moment.Class.{Class}
 use Rattle.sx_base.specs.declared.moment.Class.TheVariants as classes
-use Rattle.sx_wal.specs.Wal.{Wal, wal_of}
+use Rattle.sx_base.specs.declared.moment.Moment.{Moment}
+use Rattle.sx_base.specs.declared.moment.Moment.TheVariants as moments
+use Rattle.sx_journal.specs.Entries.{good_count}
+use Rattle.sx_journal.specs.Journal.{Journal}
+use Rattle.sx_journal.specs.declared.state.JournalState.{JournalState}
+use Rattle.sx_journal.specs.declared.state.JournalState.TheVariants as journal_states
+use Rattle.sx_moment.specs.Gathered.{Gathered, page_count, size_at, commit_at, moments_of}
+use Rattle.sx_moment.specs.Marks.{uncertain_pages}
+use Rattle.sx_moment.specs.Views.{view_of}
+use Rattle.sx_wal.specs.Wal.{Wal}
 use Rattle.sx_wal.specs.declared.slot.Slot.{Slot}
 use Rattle.sx_wal.specs.declared.state.WalState.{WalState}
 use Rattle.sx_wal.specs.declared.state.WalState.TheVariants as states
-use Rattle.sx_app.specs.Evidence.{Opened, Evidence, opened_by}
+use Rattle.sx_app.specs.Texts.{moment_word}
 use Rattle.sx_app.specs.declared.tally.Tally.{Tally}
 use Rattle.sx_app.specs.declared.timeline.TimelineLines.{TimelineLines}
 use Rattle.sx_app.specs.declared.timeline.TimelineLine.{TimelineLine}
-use Rattle.sx_app.specs.declared.timeline.TimelineLine.TheVariants.{Database, Log, Journal, File, Commits}
-
--- how many whole pages the database file has
-abbrev pub whole_pages : Opened → ℕ
-whole_pages opened = length opened.bytes / opened.header.page_size
-
--- The size of the database in pages: the one in its header where that isn't 0 and the change counter is the one at
--- which it was written, else that of the file ("In-header Database Size").
-abbrev pub file_size : Opened → ℕ
-file_size opened =
-    let header = opened.header in
-    if not (header.pages == 0) && header.change == header.valid_for then header.pages else whole_pages opened
+use Rattle.sx_app.specs.declared.timeline.TimelineLine.TheVariants as lines
 
 -- the first line: the page size and the usable size in bytes, and the whole pages of the file
-unfoldable pub database_line : Opened → List ℕ
-database_line opened =
+unfoldable pub database_line : Gathered → List ℕ
+database_line case =
     codes "database pagesize "
-    ++ decimal opened.header.page_size
+    ++ decimal case.header.page_size
     ++ codes " usable "
-    ++ decimal opened.header.usable
+    ++ decimal case.header.usable
     ++ codes " pages "
-    ++ decimal (whole_pages opened)
+    ++ decimal (page_count case)
 
 -- the name of a write-ahead log's state
 abbrev pub state_name : WalState → List ℕ
@@ -96,45 +94,61 @@ log_line state frames tally =
 unfoldable pub wal_line : Wal → List ℕ
 wal_line wal = log_line (state_name wal.state) (length wal.slots) (tally_of wal.slots)
 
--- the third line, of a journal that isn't there
-unfoldable pub journal_line : List ℕ
-journal_line = codes "journal absent records 0 good 0"
+-- the name of a journal's state
+abbrev pub journal_state_name : JournalState → List ℕ
+journal_state_name journal_states.Absent = codes "absent"
+journal_state_name journal_states.Short = codes "short"
+journal_state_name journal_states.Live = codes "live"
+journal_state_name journal_states.Zeroed = codes "zeroed"
+journal_state_name journal_states.Alien = codes "alien"
 
--- the line of the database file without its write-ahead log: its size in pages
-unfoldable pub file_line : Opened → List ℕ
-file_line opened = codes "0 pages " ++ decimal (file_size opened)
+-- the third line: the state of the journal, and how many records it has, in all and good ones
+unfoldable pub journal_line : Journal → List ℕ
+journal_line journal =
+    codes "journal "
+    ++ journal_state_name journal.state
+    ++ codes " records "
+    ++ decimal (length journal.entries)
+    ++ codes " good "
+    ++ decimal (good_count journal.entries)
 
--- a slot that isn't there
-abbrev pub no_slot : Slot
-no_slot = record { page = 0; commit_size = 0; offset = 0; class = classes.Broken }
+-- the moment, and the frame that ends it where it is a commit
+unfoldable pub moment_name : Gathered → Moment → List ℕ
+moment_name case moments.Journal = moment_word moments.Journal
+moment_name case moments.File = moment_word moments.File
+moment_name case (moments.Commit k) = moment_word (moments.Commit k) ++ codes " frame " ++ decimal (commit_at case k)
 
--- the size in pages after the commit that a slot is
-abbrev pub commit_size_of : Wal → ℕ → ℕ
-commit_size_of wal frame = (slice_index_or wal.slots frame no_slot).commit_size
+-- how many pages a moment claims, how many of them have a view, and how many of these are uncertain
+unfoldable pub moment_counts : Gathered → Moment → List ℕ
+moment_counts case moment =
+    codes " pages "
+    ++ decimal (size_at case moment)
+    ++ codes " held "
+    ++ decimal (length (held_pages (size_at case moment) (view_of case moment)))
+    ++ codes " uncertain "
+    ++ decimal (length (uncertain_pages case moment))
 
--- the line of commit k, from 1: its frame, from 0, and the size in pages after it
-unfoldable pub commit_line : Wal → ℕ → List ℕ
-commit_line wal k =
-    let frame = slice_index wal.commits (k - 1) in
-    decimal k ++ codes " frame " ++ decimal frame ++ codes " pages " ++ decimal (commit_size_of wal frame)
+-- the line of a moment
+abbrev pub moment_line : Gathered → Moment → List ℕ
+moment_line case moment = moment_name case moment ++ moment_counts case moment
 
--- the lines of the commits after the first of them
-abbrev pub commit_lines_after : ℕ → Wal → List (List ℕ)
-commit_lines_after done wal = map (commit_line wal) (range_with_len (done + 1) (length wal.commits - done))
+-- the lines of the moments behind the first so many
+abbrev pub moment_lines_after : ℕ → Gathered → List (List ℕ)
+moment_lines_after done case = map (moment_line case) (drop done (moments_of case))
 
 -- the lines from one on
-abbrev pub lines_from : TimelineLine → Opened → Wal → List (List ℕ)
-lines_from (Commits done) opened wal = commit_lines_after done wal
-lines_from File opened wal = file_line opened ∷ commit_lines_after 0 wal
-lines_from Journal opened wal = journal_line ∷ file_line opened ∷ commit_lines_after 0 wal
-lines_from Log opened wal = wal_line wal ∷ journal_line ∷ file_line opened ∷ commit_lines_after 0 wal
-lines_from Database opened wal = database_line opened ∷ wal_line wal ∷ journal_line ∷ file_line opened ∷ commit_lines_after 0 wal
+abbrev pub lines_from : TimelineLine → Gathered → List (List ℕ)
+lines_from (lines.Moments done) case = moment_lines_after done case
+lines_from lines.Journal case = journal_line case.journal ∷ moment_lines_after 0 case
+lines_from lines.Log case = wal_line case.wal ∷ journal_line case.journal ∷ moment_lines_after 0 case
+lines_from lines.Database case =
+    database_line case ∷ wal_line case.wal ∷ journal_line case.journal ∷ moment_lines_after 0 case
 
--- all lines
-abbrev pub timeline_lines : Evidence → List (List ℕ)
-timeline_lines evidence =
-    lines_from Database evidence.database (wal_of evidence.wal evidence.database.header.page_size)
+-- all lines: the three files, and each moment in order
+abbrev pub timeline_lines : Gathered → List (List ℕ)
+timeline_lines case =
+    database_line case ∷ wal_line case.wal ∷ journal_line case.journal ∷ map (moment_line case) (moments_of case)
 
 -- the lines to come
 abbrev pub timeline_rest : TimelineLines → List (List ℕ)
-timeline_rest lines = lines_from lines.next (opened_by lines.database) lines.wal
+timeline_rest rest = lines_from rest.next rest.case

@@ -1,21 +1,23 @@
-//! The evidence that the words name, opened and loaded.
-ghost use Rattle.std.specs.Prelude.{◌≡◌, IfOk, IfErr, IfSome};
+//! The evidence that the words name, opened, loaded and gathered.
+ghost use Rattle.std.specs.Prelude.{◌≡◌, ◌≤◌, ◌++◌, length, IfOk, IfErr, IfSome};
 ghost use Rattle.sx_base.specs.Files.{file_named};
-ghost use Rattle.sx_app.specs.Evidence.{database_in, database_of, wal_in, journal_in, wal_name, journal_name, companions_of, evidence_of, opened_by, bytes_by, evidence_by, Gives, HasCauses, HasUsed, IsWithin, MayMeet, MayMeetBeside};
+ghost use Rattle.sx_edge.specs.declared.whole_file.TheConstants.{GREATEST_FILE};
+ghost use Rattle.sx_app.specs.Evidence.{database_in, database_of, companion_in, companions_of, evidence_of, opened_by, bytes_by, companions_by, evidence_by, case_of, Gives, HasCauses, HasUsed, IsWithin, MayMeet, MayMeetBeside};
 
 use crate::database::Database;
-use crate::loaded::Loaded;
+use crate::loaded::{Companions, Loaded};
 use crate::refused::Refused;
-use std::alloc::Global;
+use std::alloc::{AllocError, Global};
 use sx_base::Part;
 use sx_edge::{LoadRefused, Store, load};
 use sx_header::read_header;
+use sx_moment::{Case, Evidence};
 
-/// Opens the evidence of a database's name: the database and its write-ahead log are read, and its journal is started.
+/// Opens the evidence of a database's name: the database, its write-ahead log and its journal are read, in this order.
 ///
 /// The refusals come in this order: a read fault, no database, a database that is too large; its header; a read fault
-/// of the write-ahead log, one that is too large; a read fault at the start of the journal, a journal that is there.
-/// Memory may run out at each step.
+/// of the write-ahead log, one that is too large; a read fault of the journal, one that is too large. Memory may run
+/// out at each step.
 #[tactic(auto, unfolding(crate::specs::Evidence::evidence_of))]
 pub fn open_evidence<S: Store>(alloc: Global, store: &mut S, db: &str) -> Result<Loaded, Refused>
     ensures told { IfSome (S.contents store.old) (λ files. Gives evidence_by result (evidence_of files db.now)) }
@@ -24,8 +26,8 @@ pub fn open_evidence<S: Store>(alloc: Global, store: &mut S, db: &str) -> Result
     ensures used { HasUsed (S.contents store.old) db.now result }
 {
     let database = open_database(alloc, store, db)?;
-    let wal = load_companions(alloc, store, db)?;
-    Ok(Loaded { database, wal })
+    let beside = load_companions(alloc, store, db)?;
+    Ok(Loaded { database, beside })
 }
 
 // The database, read whole, with its header.
@@ -49,6 +51,7 @@ fn open_database<S: Store>(alloc: Global, store: &mut S, db: &str) -> Result<Dat
 fn load_database<S: Store>(alloc: Global, store: &mut S, db: &str) -> Result<Vec<u8>, Refused>
     ensures contents { S.contents store.new ≡ S.contents store.old }
     ensures told { IfSome (S.contents store.old) (λ files. Gives (λ bytes. bytes.items) result (database_in (file_named files db.now))) }
+    ensures small { IfOk result (λ bytes. length bytes.items ≤ GREATEST_FILE) }
     ensures causes { HasCauses (S.faults store.old) (S.faults store.new) (S.absent store.new) (S.given store.new) result }
     ensures may { IfErr result MayMeet }
     ensures used { HasUsed (S.contents store.old) db.now result }
@@ -62,52 +65,53 @@ fn load_database<S: Store>(alloc: Global, store: &mut S, db: &str) -> Result<Vec
     }
 }
 
-// The write-ahead log, where there is one, read whole. The journal is started, and nothing is read of it yet.
+// The files beside the database, each read whole where it is there.
 #[tactic(auto, unfolding(crate::specs::Evidence::companions_of))]
-fn load_companions<S: Store>(
+fn load_companions<S: Store>(alloc: Global, store: &mut S, db: &str) -> Result<Companions, Refused>
+    ensures told { IfSome (S.contents store.old) (λ files. Gives companions_by result (companions_of files db.now)) }
+    ensures causes { HasCauses (S.faults store.old) (S.faults store.new) (S.absent store.new) (S.given store.new) result }
+    ensures may { IfErr result MayMeetBeside }
+{
+    let wal = load_companion(alloc, store, db, Part::Wal, "-wal")?;
+    let journal = load_companion(alloc, store, db, Part::Journal, "-journal")?;
+    Ok(Companions { wal, journal })
+}
+
+// The bytes of the file of the database's name with `ending` behind it, where there is one. It is that part of the
+// evidence.
+#[tactic(auto, unfolding(crate::specs::Evidence::companion_in))]
+fn load_companion<S: Store>(
     alloc: Global,
     store: &mut S,
     db: &str,
+    part: Part,
+    ending: &str,
 ) -> Result<Option<Vec<u8>>, Refused>
-    ensures told { IfSome (S.contents store.old) (λ files. Gives bytes_by result (companions_of files db.now)) }
-    ensures within { IfOk result IsWithin }
-    ensures causes { HasCauses (S.faults store.old) (S.faults store.new) (S.absent store.new) (S.given store.new) result }
-    ensures may { IfErr result MayMeetBeside }
-{
-    let wal = load_wal(alloc, store, db)?;
-    start_journal(alloc, store, db)?;
-    Ok(wal)
-}
-
-// The bytes of the write-ahead log, where there is one.
-#[tactic(auto, unfolding(crate::specs::Evidence::wal_in))]
-fn load_wal<S: Store>(alloc: Global, store: &mut S, db: &str) -> Result<Option<Vec<u8>>, Refused>
     ensures contents { S.contents store.new ≡ S.contents store.old }
-    ensures told { IfSome (S.contents store.old) (λ files. Gives bytes_by result (wal_in (file_named files (wal_name db.now)))) }
+    ensures told { IfSome (S.contents store.old) (λ files.
+        Gives bytes_by result (companion_in part (file_named files (db.now ++ ending.now)))) }
     ensures within { IfOk result IsWithin }
     ensures causes { HasCauses (S.faults store.old) (S.faults store.new) (S.absent store.new) (S.given store.new) result }
     ensures may { IfErr result MayMeetBeside }
 {
-    let name = format!(in alloc; "{db}-wal")?;
+    let name = format!(in alloc; "{db}{ending}")?;
     match load(alloc, store, name.as_str()) {
-        Ok(wal) => Ok(wal),
-        Err(LoadRefused::TooLarge) => Err(Refused::TooLarge(Part::Wal)),
+        Ok(bytes) => Ok(bytes),
+        Err(LoadRefused::TooLarge) => Err(Refused::TooLarge(part)),
         Err(LoadRefused::ReadFault) => Err(Refused::ReadFault),
         Err(LoadRefused::Memory) => Err(Refused::Memory),
     }
 }
 
-// Starts the journal, and refuses where there is one.
-#[tactic(auto, unfolding(crate::specs::Evidence::journal_in))]
-fn start_journal<S: Store>(alloc: Global, store: &mut S, db: &str) -> Result<(), Refused>
-    ensures told { IfSome (S.contents store.old) (λ files. Gives (λ done. done) result (journal_in (file_named files (journal_name db.now)))) }
-    ensures causes { HasCauses (S.faults store.old) (S.faults store.new) (S.absent store.new) (S.given store.new) result }
-    ensures may { IfErr result MayMeetBeside }
+/// The evidence with its moments. The cost is that of reading the write-ahead log and the journal once, and of
+/// comparing each page of a committed frame with that of the file.
+pub fn gather(alloc: Global, loaded: &Loaded) -> Result<Case<'_>, AllocError>
+    ensures { IfOk result (λ case. case ≡ case_of (evidence_by loaded.now)) }
 {
-    let name = format!(in alloc; "{db}-journal")?;
-    match store.start(name.as_str()) {
-        Ok(false) => Ok(()),
-        Ok(true) => Err(Refused::NotBuilt),
-        Err(_) => Err(Refused::ReadFault),
-    }
+    let evidence = Evidence {
+        database: loaded.database.bytes.as_slice(),
+        wal: loaded.beside.wal_bytes(),
+        journal: loaded.beside.journal_bytes(),
+    };
+    Case::gather(alloc, loaded.database.header, evidence)
 }

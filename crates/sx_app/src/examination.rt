@@ -4,11 +4,15 @@ ghost use Rattle.sx_base.specs.Causes.{Rose};
 ghost use Rattle.sx_base.specs.declared.evidence.Part.{Part};
 ghost use Rattle.sx_edge.specs.declared.whole_file.TheConstants.{GREATEST_FILE};
 ghost use Rattle.sx_words.specs.Words.{texts, request_of, asked_by};
-ghost use Rattle.sx_app.specs.Answers.{Answers, answer, storeless, part_asked, MayAnswer, Prints, IsExamined};
+ghost use Rattle.sx_app.specs.Answers.{Answers, answer, storeless, part_asked, reply_over, MayAnswer, Prints, IsAnswered, IsExamined};
+ghost use Rattle.sx_app.specs.Evidence.{case_of, evidence_by};
 
-use crate::prepared::{part_of, prepare, write};
+use crate::evidence::open_evidence;
+use crate::loaded::Loaded;
+use crate::prepared::{prepare, write};
 use crate::refusals::refuse;
 use crate::refused::Refused;
+use crate::requested::{db_of, part_of};
 use std::alloc::Global;
 use sx_base::Part;
 use sx_edge::{Sink, Store};
@@ -57,7 +61,23 @@ fn carry_out<S: Store, W: Sink>(
     ensures { IsExamined (Some (asked_by request.now)) (S.contents store.old) (S.faults store.old) (S.faults store.new)
         (S.absent store.new) (S.given store.new) (W.taken out.old) (W.taken out.new) (W.faults out.old) (W.faults out.new) result }
 {
-    match prepare(alloc, request, store) {
+    match open_evidence(alloc, store, db_of(request)) {
+        Ok(loaded) => answer_over(alloc, request, &loaded, out),
+        Err(refused) => Err(refuse(alloc, part_of(request), refused, out)),
+    }
+}
+
+// What a request asks for, over evidence that was opened.
+fn answer_over<W: Sink>(
+    alloc: Global,
+    request: &Request<'_>,
+    loaded: &Loaded,
+    out: &mut W,
+) -> Result<(), Refused>
+    ensures { IsAnswered (asked_by request.now) (reply_over (asked_by request.now) (case_of (evidence_by loaded.now)))
+        (W.taken out.old) (W.taken out.new) (W.faults out.old) (W.faults out.new) result }
+{
+    match prepare(alloc, request, loaded) {
         Ok(prepared) => write(alloc, prepared, out),
         Err(refused) => Err(refuse(alloc, part_of(request), refused, out)),
     }

@@ -6,10 +6,14 @@ mod evidence;
 mod examination;
 mod lines;
 mod loaded;
+mod moments;
+mod page;
 mod prepared;
 mod refusals;
 mod refused;
+mod requested;
 mod tally;
+mod texts;
 mod timeline;
 
 pub use examination::examine;

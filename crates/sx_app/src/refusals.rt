@@ -65,7 +65,6 @@ fn plain_text(refused: Refused) -> Option<&'static str>
         Refused::TooLarge(part) => Some(size_text(part)),
         Refused::NoTable => Some("refused: no such table\n"),
         Refused::NoTree => Some("refused: table has no tree\n"),
-        Refused::NotBuilt => Some("refused: not built yet\n"),
         Refused::ReadFault | Refused::WriteFault | Refused::Memory => Some(""),
         Refused::NoMoment(_) | Refused::Unreadable(_) | Refused::NoByte(_) => None,
     }

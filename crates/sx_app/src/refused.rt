@@ -50,9 +50,6 @@ pub enum Refused {
     /// The table's root page is no page number.
     #[error("the table has no tree")]
     NoTree,
-    /// There is a write-ahead log or a journal, which isn't read yet.
-    #[error("not built yet")]
-    NotBuilt,
 }
 
 impl From<AllocError> for Refused {
@@ -81,6 +78,5 @@ pub fn status(outcome: &Result<(), Refused>) -> u8
         Err(Refused::WriteFault) => 10,
         Err(Refused::Memory) => 11,
         Err(Refused::NoTree) => 12,
-        Err(Refused::NotBuilt) => 13,
     }
 }

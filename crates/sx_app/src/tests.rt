@@ -7,15 +7,16 @@ use sx_edge::{Shelf, Tray, Trip, names_differ};
 
 mod cases;
 mod endless;
+mod journals;
 mod logs;
 
 // The text of `timeline` over the plain database.
 const PLAIN: &str =
-    "database pagesize 512 usable 512 pages 2\nwal absent frames 0 committed 0 pending 0 foreign 0 broken 0\njournal absent records 0 good 0\n0 pages 2\n";
+    "database pagesize 512 usable 512 pages 2\nwal absent frames 0 committed 0 pending 0 foreign 0 broken 0\njournal absent records 0 good 0\n0 pages 2 held 2 uncertain 0\n";
 
 // The text of `timeline` over the empty database.
 const EMPTY: &str =
-    "database pagesize 512 usable 512 pages 1\nwal absent frames 0 committed 0 pending 0 foreign 0 broken 0\njournal absent records 0 good 0\n0 pages 1\n";
+    "database pagesize 512 usable 512 pages 1\nwal absent frames 0 committed 0 pending 0 foreign 0 broken 0\njournal absent records 0 good 0\n0 pages 1 held 1 uncertain 0\n";
 
 // Zeros up to a place, and then these bytes.
 fn put(bytes: &mut Vec<u8>, at: usize, piece: &[u8]) -> Result<(), Fail> {
@@ -77,6 +78,23 @@ fn changed(alloc: Global, changes: &[(usize, u8)]) -> Result<Vec<u8>, Fail> {
     Ok(bytes)
 }
 
+// The plain database after its second row was deleted: the row's cell is a freeblock.
+fn second_row_deleted(alloc: Global) -> Result<Vec<u8>, Fail> {
+    changed(
+        alloc,
+        &[
+            (513, 1),
+            (514, 236),
+            (516, 2),
+            (523, 228),
+            (1004, 0),
+            (1005, 0),
+            (1006, 0),
+            (1007, 10),
+        ],
+    )
+}
+
 fn owned(alloc: Global, words: &[&str]) -> Result<Vec<String>, Fail> {
     let mut list = Vec::new(alloc);
     for word in words {
@@ -102,8 +120,23 @@ struct Sizes {
 
 const AMPLE: Sizes = Sizes {
     most: 65_536,
-    room: 4_096,
+    room: 16_384,
 };
+
+// Whether an examination of these files ends with this status and this text.
+fn check(
+    rt: &impl Abort,
+    alloc: Global,
+    named: &[(&str, &[u8])],
+    words: &[&str],
+    end: u8,
+    text: &str,
+) -> Result<(), Fail> {
+    let (ended, out) = examined(rt, alloc, named, &[], AMPLE, words)?;
+    assert_eq!(rt; out.taken(), text.as_bytes(), "{text}");
+    assert_eq!(rt; ended, end);
+    Ok(())
+}
 
 // The status that an examination of these files ends with, and what it wrote.
 fn examined(

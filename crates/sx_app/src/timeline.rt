@@ -1,41 +1,22 @@
 //! The text of `timeline`.
-ghost use Rattle.std.specs.Prelude.{◌≡◌, ◌<◌, ◌≤◌, ◌+◌, length, OnOk, string_bytes};
-ghost use Rattle.sx_app.specs.Evidence.{opened_by};
+ghost use Rattle.std.specs.Prelude.{◌≡◌, ◌<◌, ◌++◌, IsTrue, length, OnOk, slice_get, string_bytes};
+ghost use Rattle.sx_moment.specs.Gathered.{is_moment, moments_of, page_count};
 ghost use Rattle.sx_app.specs.Texts.{ended};
-ghost use Rattle.sx_app.specs.Timeline.{database_line, log_line, wal_line, journal_line, file_line, commit_line, commit_size_of, state_name};
+ghost use Rattle.sx_app.specs.Timeline.{database_line, log_line, wal_line, journal_line, moment_name, moment_counts, moment_line, state_name, journal_state_name, timeline_lines, timeline_rest};
 
-use crate::database::Database;
 use crate::lines::Lines;
-use crate::loaded::Loaded;
 use crate::tally::{Tally, count_classes};
-use std::alloc::{AllocError, Global};
-use sx_wal::{WalIndex, WalState, read_wal};
+use std::alloc::AllocError;
+use sx_base::{Moment, Pages};
+use sx_journal::{JournalIndex, JournalState};
+use sx_moment::{Case, Snapshot};
+use sx_wal::{WalIndex, WalState};
 
 /// The lines of `timeline` that are still to come.
 #[derive(Drop)]
-pub struct TimelineLines {
-    database: Database,
-    wal: WalIndex,
+pub struct TimelineLines<'a> {
+    case: Case<'a>,
     next: TimelineLine,
-}
-
-impl TimelineLines {
-    ghost use Rattle.std.specs.Prelude.{◌≡◌, IfOk};
-    ghost use Rattle.sx_app.specs.Evidence.{evidence_by};
-    ghost use Rattle.sx_app.specs.Timeline.{timeline_lines, timeline_rest};
-
-    /// All lines over this evidence. The write-ahead log is read once, here.
-    pub fn new(alloc: Global, loaded: Loaded) -> Result<Self, AllocError>
-        ensures { IfOk result (λ lines. timeline_rest lines ≡ timeline_lines (evidence_by loaded)) }
-    {
-        let page_size = loaded.database.header.page_size;
-        let wal = read_wal(alloc, loaded.wal_bytes(), page_size)?;
-        Ok(TimelineLines {
-            database: loaded.database,
-            wal,
-            next: TimelineLine::Database,
-        })
-    }
 }
 
 /// The next line of `timeline`.
@@ -47,25 +28,42 @@ pub enum TimelineLine {
     Log,
     /// The rollback journal.
     Journal,
-    /// The state of the database file without its write-ahead log.
-    File,
-    /// The commits behind the first so many.
-    Commits(u32),
+    /// The moments behind the first so many.
+    Moments(u32),
+}
+
+impl<'a> TimelineLines<'a> {
+    /// All lines over this evidence.
+    pub fn new(case: Case<'a>) -> Self
+        ensures { timeline_rest result ≡ timeline_lines case.entry }
+    {
+        TimelineLines {
+            case,
+            next: TimelineLine::Database,
+        }
+    }
 }
 
 // Puts the database's line into `line`.
 #[tactic(auto, unfolding(crate::specs::Timeline::database_line))]
-fn put_database_line(database: &Database, line: &mut String) -> Result<(), AllocError>
-    ensures { OnOk result (string_bytes line.new ≡ ended (database_line (opened_by database.now))) }
+fn put_database_line(case: &Case<'_>, line: &mut String) -> Result<(), AllocError>
+    ensures { OnOk result (string_bytes line.new ≡ ended (database_line case.now)) }
 {
-    let page_size = database.header.page_size;
-    let usable = database.header.usable;
-    let pages = database.whole_pages();
+    let page_size = case.header().page_size;
+    let usable = case.header().usable;
+    let pages = whole_pages(case);
     line.clear();
     writeln!(
         line,
         "database pagesize {page_size} usable {usable} pages {pages}"
     )
+}
+
+// How many whole pages the database file has.
+fn whole_pages(case: &Case<'_>) -> usize
+    ensures { result ≡ page_count case.now }
+{
+    case.evidence().database.len() / case.header().page_size as usize
 }
 
 // The name of a write-ahead log's state.
@@ -114,48 +112,72 @@ fn put_wal_line(wal: &WalIndex, line: &mut String) -> Result<(), AllocError>
     put_log_line(name_of(wal.state()), wal.slots(), &tally, line)
 }
 
-// Puts the line of a journal that isn't there into `line`.
+// The name of a journal's state.
+fn journal_name_of(state: JournalState) -> &'static str
+    ensures { result.now ≡ journal_state_name state }
+{
+    match state {
+        JournalState::Absent => "absent",
+        JournalState::Short => "short",
+        JournalState::Live => "live",
+        JournalState::Zeroed => "zeroed",
+        JournalState::Alien => "alien",
+    }
+}
+
+// Puts the journal's line into `line`.
 #[tactic(auto, unfolding(crate::specs::Timeline::journal_line))]
-fn put_journal_line(line: &mut String) -> Result<(), AllocError>
-    ensures { OnOk result (string_bytes line.new ≡ ended journal_line) }
+fn put_journal_line(journal: &JournalIndex, line: &mut String) -> Result<(), AllocError>
+    ensures { OnOk result (string_bytes line.new ≡ ended (journal_line journal.now)) }
+{
+    let state = journal_name_of(journal.state());
+    let records = journal.entries();
+    let good = journal.good();
+    line.clear();
+    writeln!(line, "journal {state} records {records} good {good}")
+}
+
+// Puts the name of a moment into `line`, and the frame that ends it where it is a commit.
+#[tactic(auto, unfolding(crate::specs::Timeline::moment_name))]
+fn put_moment_name(case: &Case<'_>, moment: Moment, line: &mut String) -> Result<(), AllocError>
+    requires { IsTrue (is_moment case.now moment) }
+    ensures { OnOk result (string_bytes line.new ≡ moment_name case.now moment) }
 {
     line.clear();
-    line.push_str("journal absent records 0 good 0\n")
+    match moment {
+        Moment::Journal => line.push_str("journal"),
+        Moment::File => line.push_str("0"),
+        Moment::Commit(k) => {
+            let frame = case.wal().commit(k);
+            write!(line, "{k} frame {frame}")
+        }
+    }
 }
 
-// Puts the line of the database file without its write-ahead log into `line`.
-#[tactic(auto, unfolding(crate::specs::Timeline::file_line))]
-fn put_file_line(database: &Database, line: &mut String) -> Result<(), AllocError>
-    ensures { OnOk result (string_bytes line.new ≡ ended (file_line (opened_by database.now))) }
+// Puts the counts of a moment's pages behind what `line` holds.
+#[tactic(auto, unfolding(crate::specs::Timeline::moment_counts))]
+fn put_moment_counts(snapshot: &Snapshot<'_, '_>, line: &mut String) -> Result<(), AllocError>
+    ensures { OnOk result (string_bytes line.new ≡ string_bytes line.old ++ ended (moment_counts snapshot.now.case.now snapshot.now.moment)) }
 {
-    let pages = database.file_size();
-    line.clear();
-    writeln!(line, "0 pages {pages}")
+    let pages = snapshot.size();
+    let held = snapshot.held();
+    let uncertain = snapshot.uncertain_count();
+    writeln!(line, " pages {pages} held {held} uncertain {uncertain}")
 }
 
-// The size in pages after the commit that a frame is.
-#[tactic(auto, using(std::proofs::lemmas::Option::get_or_from_slice_get))]
-fn size_after(wal: &WalIndex, frame: u32) -> u32
-    requires { frame < length wal.now.slots }
-    ensures { result ≡ commit_size_of wal.now frame }
+// Puts the line of a moment of the evidence into `line`.
+fn put_moment_line(case: &Case<'_>, moment: Moment, line: &mut String) -> Result<(), AllocError>
+    requires { IsTrue (is_moment case.now moment) }
+    ensures { OnOk result (string_bytes line.new ≡ ended (moment_line case.now moment)) }
 {
-    wal.slot(frame).commit_size
+    let Some(snapshot) = case.snapshot(moment) else {
+        unreachable!()
+    };
+    put_moment_name(case, moment, line)?;
+    put_moment_counts(&snapshot, line)
 }
 
-// Puts the line of commit `k`, from 1, into `line`.
-#[tactic(auto, unfolding(crate::specs::Timeline::commit_line))]
-fn put_commit_line(wal: &WalIndex, k: u32, line: &mut String) -> Result<(), AllocError>
-    requires from_one { 1 ≤ k }
-    requires there { k ≤ length wal.now.commits }
-    ensures { OnOk result (string_bytes line.new ≡ ended (commit_line wal.now k)) }
-{
-    let frame = wal.commit(k);
-    let pages = size_after(wal, frame);
-    line.clear();
-    writeln!(line, "{k} frame {frame} pages {pages}")
-}
-
-impl Lines for TimelineLines {
+impl Lines for TimelineLines<'_> {
     ghost use Rattle.sx_app.specs.Timeline.{timeline_rest};
 
     ghost lines = { timeline_rest };
@@ -163,27 +185,23 @@ impl Lines for TimelineLines {
     fn next_line(&mut self, line: &mut String) -> Result<bool, AllocError> {
         match self.next {
             TimelineLine::Database => {
-                put_database_line(&self.database, line)?;
+                put_database_line(&self.case, line)?;
                 self.next = TimelineLine::Log;
             }
             TimelineLine::Log => {
-                put_wal_line(&self.wal, line)?;
+                put_wal_line(self.case.wal(), line)?;
                 self.next = TimelineLine::Journal;
             }
             TimelineLine::Journal => {
-                put_journal_line(line)?;
-                self.next = TimelineLine::File;
+                put_journal_line(self.case.journal(), line)?;
+                self.next = TimelineLine::Moments(0);
             }
-            TimelineLine::File => {
-                put_file_line(&self.database, line)?;
-                self.next = TimelineLine::Commits(0);
-            }
-            TimelineLine::Commits(done) => {
-                if done >= self.wal.commits() {
+            TimelineLine::Moments(done) => {
+                if done >= self.case.moments() {
                     return Ok(false);
                 }
-                put_commit_line(&self.wal, done + 1, line)?;
-                self.next = TimelineLine::Commits(done + 1);
+                put_moment_line(&self.case, self.case.moment(done), line)?;
+                self.next = TimelineLine::Moments(done + 1);
             }
         }
         Ok(true)

@@ -1,28 +1,143 @@
 -- The grammar of the words: the request that a list of words asks for, if it asks for one.
-use Rattle.std.specs.Prelude.{ℕ, Bool, not, ◌&&◌, ◌||◌, if◌then◌else◌, List, [], ◌∷◌, map, Option, None, Some, Result, Ok, Err, String, codes, bytes_eq, string_bytes}
+use Rattle.std.specs.Prelude.{ℕ, ◌+◌, ◌==◌, Bool, true, false, not, ◌&&◌, ◌||◌, nat_lt, nat_le, if◌then◌else◌, List, [], ◌∷◌, map, is_some, count_by, slice_index, Option, None, Some, Result, Ok, Err, String, codes, bytes_eq, string_bytes}
+use Rattle.std.specs.List.{list_all, list_any, before_first, after_first}
+use Rattle.std.specs.Option.{option_map}
+use Rattle.std.specs.Str.{all_ascii_digits}
+use Rattle.std.specs.Str.Parse.{digits_value}
 use Rattle.std.specs.declared.alloc.Global.{Global}
+use Rattle.sx_base.specs.declared.moment.Moment.{Moment}
+use Rattle.sx_base.specs.declared.moment.Moment.TheVariants as moments
+use Rattle.sx_words.specs.declared.command.Command.{Command}
+use Rattle.sx_words.specs.declared.command.Command.TheVariants as commands
+use Rattle.sx_words.specs.declared.key.Key.{Key}
+use Rattle.sx_words.specs.declared.key.Key.TheVariants.{No, At}
 use Rattle.sx_words.specs.declared.request.Request.{Request}
 use Rattle.sx_words.specs.declared.request.Request.TheVariants as requests
+use Rattle.sx_words.specs.declared.request.When.{When}
+use Rattle.sx_words.specs.declared.request.When.TheVariants as whens
 use Rattle.sx_words.specs.declared.request.Usage.{Usage}
 
 -- what words can ask for, with names as lists of bytes
 pub data Asked : Type 0 where
   Timeline : (db : List ℕ) → Asked
+  Page : (db : List ℕ) → (number : ℕ) → (at : When) → Asked
 
 -- a database's name isn't empty, and isn't the word that is kept for a command without one
 abbrev pub is_name : List ℕ → Bool
 is_name name = not (bytes_eq name [] || bytes_eq name (codes "drill"))
 
--- what a name and a command ask for
-abbrev pub command_of : List ℕ → List ℕ → Option Asked
-command_of db command = if is_name db && bytes_eq command (codes "timeline") then Some (Timeline db) else None
+-- ---- the table of commands
 
--- what the words ask for: they are a name and a command, and nothing else
-abbrev pub request_of : List (List ℕ) → Option Asked
+-- the command of a word
+abbrev pub command_named : List ℕ → Option Command
+command_named word =
+    if bytes_eq word (codes "timeline") then Some commands.Timeline
+    else (if bytes_eq word (codes "page") then Some commands.Page else None)
+
+-- the keys that the words behind a command may set
+abbrev pub allowed : Command → List Key
+allowed commands.Timeline = []
+allowed commands.Page = No ∷ At ∷ []
+
+-- those that they must set
+abbrev pub required : Command → List Key
+required commands.Timeline = []
+required commands.Page = No ∷ []
+
+-- ---- words that set a key
+
+-- a key's name
+abbrev pub key_name : Key → List ℕ
+key_name No = codes "no"
+key_name At = codes "at"
+
+-- the byte `=`
+abbrev pub is_equals : ℕ → Bool
+is_equals byte = byte == 61
+
+-- the value that a word sets a key to: the key stands before the word's first `=`, and the value, which isn't empty,
+-- behind it
+unfoldable pub setting_of : Key → List ℕ → Option (List ℕ)
+setting_of key word =
+    let value = after_first is_equals word in
+    if bytes_eq (before_first is_equals word) (key_name key) && not (bytes_eq value []) then Some value else None
+
+-- a word sets a key
+abbrev pub sets : Key → List ℕ → Bool
+sets key word = is_some (setting_of key word)
+
+-- the first of two, where it is there
+abbrev pub first_given : Option (List ℕ) → Option (List ℕ) → Option (List ℕ)
+first_given None second = second
+first_given (Some value) second = Some value
+
+-- the value of a key, by the first of the words that sets it
+abbrev pub value_of : Key → List (List ℕ) → Option (List ℕ)
+value_of key [] = None
+value_of key (word ∷ words) = first_given (setting_of key word) (value_of key words)
+
+-- the words set keys of the table's row: each sets one that is allowed, none is set twice, and those that are required
+-- are set
+unfoldable pub are_settings : List Key → List Key → List (List ℕ) → Bool
+are_settings allowed required words =
+    list_all (λ word. list_any (λ key. sets key word) allowed) words
+    && list_all (λ key. nat_le (count_by (sets key) words) 1) allowed
+    && list_all (λ key. is_some (value_of key words)) required
+
+-- ---- values
+
+-- a number: `0`, or decimal digits that don't begin with 0
+abbrev pub is_number : List ℕ → Bool
+is_number text = all_ascii_digits text && (bytes_eq text (codes "0") || nat_lt 48 (slice_index text 0))
+
+-- the number that is written, where it is one within these bounds
+unfoldable pub number_of : ℕ → ℕ → List ℕ → Option ℕ
+number_of least most text =
+    let number = digits_value 10 text in
+    if is_number text && nat_le least number && nat_le number most then Some number else None
+
+-- the number of a page, from 1
+unfoldable pub page_number_of : Option (List ℕ) → Option ℕ
+page_number_of None = None
+page_number_of (Some text) = number_of 1 4294967295 text
+
+-- the moment of a number: 0 is the file, and every other number a commit
+abbrev pub numbered : ℕ → Moment
+numbered number = if number == 0 then moments.File else moments.Commit number
+
+-- when: the last moment where no value is given, else the journal's or that of a number
+unfoldable pub when_of : Option (List ℕ) → Option When
+when_of None = Some whens.Last
+when_of (Some text) =
+    if bytes_eq text (codes "journal") then Some (whens.At moments.Journal)
+    else option_map (λ number. whens.At (numbered number)) (number_of 0 4294967295 text)
+
+-- ---- the request
+
+-- a page at some time, where both could be read
+abbrev pub page_asked : List ℕ → Option ℕ → Option When → Option Asked
+page_asked db (Some number) (Some at) = Some (Page db number at)
+page_asked db (Some number) None = None
+page_asked db None at = None
+
+-- what a command asks for, with words that set its keys
+unfoldable pub asked_of : Command → List ℕ → List (List ℕ) → Option Asked
+asked_of commands.Timeline db words = Some (Timeline db)
+asked_of commands.Page db words = page_asked db (page_number_of (value_of No words)) (when_of (value_of At words))
+
+-- what a name, a command and the words behind it ask for
+unfoldable pub command_of : List ℕ → Option Command → List (List ℕ) → Option Asked
+command_of db None words = None
+command_of db (Some command) words =
+    if is_name db && are_settings (allowed command) (required command) words then asked_of command db words else None
+
+-- what the words ask for: they are a name, a command, and words that set its keys
+unfoldable pub request_of : List (List ℕ) → Option Asked
 request_of [] = None
 request_of (db ∷ []) = None
-request_of (db ∷ command ∷ []) = command_of db command
-request_of (db ∷ command ∷ word ∷ words) = None
+request_of (db ∷ command ∷ words) = command_of db (command_named command) words
+
+-- ---- requests as they were read
 
 -- the words as lists of bytes
 abbrev pub texts : List (String Global) → List (List ℕ)
@@ -31,6 +146,7 @@ texts words = map string_bytes words
 -- what a request asks for, without where its names lie in memory
 abbrev pub asked_by : Request → Asked
 asked_by (requests.Timeline db) = Timeline db.now
+asked_by (requests.Page db number at) = Page db.now number at
 
 -- what was read: a request, or that the words are outside the grammar
 abbrev pub asked : Result Request Usage → Option Asked

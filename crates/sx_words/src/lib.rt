@@ -1,8 +1,15 @@
 //! The words of the command line, read as a request.
 #![tactic(auto)]
 
+mod command;
+mod key;
+mod number;
 mod reading;
 mod request;
+mod settings;
 
 pub use reading::read_words;
-pub use request::{Request, Usage};
+pub use request::{Request, Usage, When};
+
+#[cfg(test)]
+mod tests;

@@ -5,12 +5,14 @@ use super::*;
 use sx_base::Failed;
 use sx_edge::Store;
 
-// A store that tells nothing of its files. One of them is the plain database or ends never, the other ends never.
+// A store that tells nothing of its files: `a.db` and `b.db` are the plain database, the log of `b.db` is absent, and
+// every other file never ends.
 #[derive(Drop)]
 struct Endless {
     database: Vec<u8>,
     at: usize,
     given: u64,
+    absent: bool,
 }
 
 impl Store for Endless {
@@ -20,16 +22,19 @@ impl Store for Endless {
 
     ghost faults = { λ _. 0 };
 
-    ghost absent = { λ _. false };
+    ghost absent = { λ store. store.absent };
 
     ghost given = { λ store. store.given };
 
     fn start(&mut self, name: &str) -> Result<bool, Failed> {
-        if name != "a.db" {
-            self.at = usize::MAX;
-        }
+        self.at = if name == "a.db" || name == "b.db" {
+            0
+        } else {
+            usize::MAX
+        };
         self.given = 0;
-        Ok(true)
+        self.absent = name == "b.db-wal";
+        Ok(!self.absent)
     }
 
     fn read(&mut self, buf: &mut [u8]) -> Result<usize, Failed> {
@@ -52,15 +57,17 @@ fn a_file_without_an_end_is_too_large(rt: HostRuntime) -> Result<(), Fail> {
     let alloc = rt.alloc();
     for (name, text) in [
         (
-            "b.db",
+            "c.db",
             "refused: database is larger than 1073741824 bytes\n",
         ),
         ("a.db", "refused: wal is larger than 1073741824 bytes\n"),
+        ("b.db", "refused: journal is larger than 1073741824 bytes\n"),
     ] {
         let mut store = Endless {
             database: plain_database(alloc)?,
             at: 0,
             given: 0,
+            absent: false,
         };
         let mut out = Tray::new(alloc, 4_096, 4_096)?;
         let words = owned(alloc, &[name, "timeline"])?;

@@ -1,6 +1,6 @@
 -- At each exit by an error what was taken is a front of the text; each turn takes one line more.
-use Rattle.std.proofs.Common.{arith, string_bytes}
-use Rattle.sx_app.proofs.Writing.{IsWritten, written_more, written_some, written_front, on_err}
+use Rattle.std.proofs.Common.{arith}
+use Rattle.sx_app.proofs.Writing.{written_more, written_some, written_front, on_err}
 use Rattle.sx_app.proofs.lines.write_lines.Goals as goal
 
 pub returns-in_err-next_line-clause-front : goal.returns-in_err-next_line-clause-front

@@ -1,4 +1,4 @@
 use Rattle.sx_app.proofs.prepared.write.Goals as goal
 
-pub returns-clause-front : goal.returns-clause-front
-returns-clause-front g c = rw c.timeline_in-lines.ensures at c.write_lines.ensures.front
+pub returns-in-Timeline-clause-front : goal.returns-in-Timeline-clause-front
+returns-in-Timeline-clause-front g c = rw c.in-Timeline.is c.write_lines.ensures.front

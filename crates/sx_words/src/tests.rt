@@ -1,0 +1,103 @@
+//! Words that were written by hand, inside the grammar and outside it.
+use super::*;
+use std::alloc::Global;
+use std::process::Abort;
+use std::test::Fail;
+use sx_base::Moment;
+
+fn owned(alloc: Global, words: &[&str]) -> Result<Vec<String>, Fail> {
+    let mut list = Vec::new(alloc);
+    for word in words {
+        list.push(String::from_str(alloc, word)?)?;
+    }
+    Ok(list)
+}
+
+// Whether the words behind a database and `page` ask for this page at this time.
+fn check_page(
+    rt: &impl Abort,
+    alloc: Global,
+    settings: &[&str],
+    page: (u32, When),
+) -> Result<(), Fail> {
+    let mut words = owned(alloc, &["a=b.db", "page"])?;
+    for word in settings {
+        words.push(String::from_str(alloc, word)?)?;
+    }
+    let (no, at) = page;
+    let db = "a=b.db";
+    assert_eq!(rt; read_words(&words), Ok(Request::Page { db, no, at }));
+    Ok(())
+}
+
+#[test]
+fn a_page_is_asked_for_by_its_number_and_a_time(rt: HostRuntime) -> Result<(), Fail> {
+    let alloc = rt.alloc();
+    check_page(&rt, alloc, &["no=2"], (2, When::Last))?;
+    check_page(&rt, alloc, &["no=4294967295"], (4_294_967_295, When::Last))?;
+    check_page(&rt, alloc, &["no=10", "at=0"], (10, When::At(Moment::File)))?;
+    check_page(
+        &rt,
+        alloc,
+        &["at=1", "no=1"],
+        (1, When::At(Moment::Commit(1))),
+    )?;
+    check_page(
+        &rt,
+        alloc,
+        &["no=1", "at=4294967295"],
+        (1, When::At(Moment::Commit(4_294_967_295))),
+    )?;
+    check_page(
+        &rt,
+        alloc,
+        &["at=journal", "no=3"],
+        (3, When::At(Moment::Journal)),
+    )?;
+    Ok(())
+}
+
+#[test]
+fn other_words_are_outside_the_grammar(rt: HostRuntime) -> Result<(), Fail> {
+    let alloc = rt.alloc();
+    for words in [
+        [].as_slice(),
+        &["a.db"],
+        &["a.db", "pages"],
+        &["page", "a.db", "no=1"],
+        &["", "page", "no=1"],
+        &["drill", "page", "no=1"],
+        &["a.db", "timeline", "no=1"],
+        &["a.db", "timeline", ""],
+        &["a.db", "page"],
+        &["a.db", "page", "at=1"],
+        &["a.db", "page", "no"],
+        &["a.db", "page", "no="],
+        &["a.db", "page", "=1"],
+        &["a.db", "page", "No=1"],
+        &["a.db", "page", "no =1"],
+        &["a.db", "page", "no=1=1"],
+        &["a.db", "page", "no=0"],
+        &["a.db", "page", "no=01"],
+        &["a.db", "page", "no=+1"],
+        &["a.db", "page", "no=-1"],
+        &["a.db", "page", "no=1x"],
+        &["a.db", "page", "no= 1"],
+        &["a.db", "page", "no=4294967296"],
+        &["a.db", "page", "no=18446744073709551617"],
+        &["a.db", "page", "no=1", "no=1"],
+        &["a.db", "page", "no=1", "at=1", "at=1"],
+        &["a.db", "page", "no=1", "table=t"],
+        &["a.db", "page", "no=1", "at"],
+        &["a.db", "page", "no=1", "at="],
+        &["a.db", "page", "no=1", "at=01"],
+        &["a.db", "page", "no=1", "at=00"],
+        &["a.db", "page", "no=1", "at=all"],
+        &["a.db", "page", "no=1", "at=Journal"],
+        &["a.db", "page", "no=1", "at=4294967296"],
+    ] {
+        let words = owned(alloc, words)?;
+        assert_eq!(rt; read_words(&words), Err(Usage), "{words:?}");
+    }
+    Ok(())
+}
