@@ -14,8 +14,7 @@ use sx_cell::Cell;
 ///
 /// They come in this order: on page 1 the database header, then the header of the page, the cell pointer array where
 /// there are cells, each cell that can be read in the order of that array, each freeblock in the order of its chain.
-/// They may overlap, and aren't merged. Each step but those over unreadable cells costs a cell's bytes, and takes no
-/// memory.
+/// They may overlap, and aren't merged. Each cell is read once, and nothing takes memory.
 #[derive(Drop)]
 pub struct Claims<'a> {
     fixed: FixedClaims<'a>,
@@ -170,14 +169,23 @@ impl<'a> Iterator for CellClaims<'a> {
 
     ghost remaining = { item_count (λ it. it) };
 
+    #[tactic(auto, using(crate::proofs::ClaimLemmas::no_cells))]
     fn next(&mut self) -> Option<(Span, Label)> {
-        let (index, cell) = next_readable(&self.node, self.next)?;
-        self.next = index + 1;
-        let span = Span {
-            start: cell.at,
-            len: cell.len,
-        };
-        Some((span, Label::Cell(index)))
+        match next_readable(&self.node, self.next) {
+            None => {
+                // What can't be read isn't tried again.
+                self.next = self.node.cells();
+                None
+            }
+            Some((index, cell)) => {
+                self.next = index + 1;
+                let span = Span {
+                    start: cell.at,
+                    len: cell.len,
+                };
+                Some((span, Label::Cell(index)))
+            }
+        }
     }
 }
 
