@@ -1,5 +1,5 @@
 -- The lines of a b-tree page that are still to come.
-use Rattle.std.specs.Prelude.{◌≡◌, ℕ, ◌≤◌, List}
+use Rattle.std.specs.Prelude.{ℕ, ◌≤◌, List}
 use Rattle.sx_node.specs.Nodes.{cell_count}
 use Rattle.sx_app.specs.NodeText.{node_lines_from}
 use Rattle.sx_app.specs.declared.node_lines.NodeLines.{NodeLines}

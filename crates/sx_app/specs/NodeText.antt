@@ -2,14 +2,14 @@
 -- its freeblocks ("B-tree Pages").
 use Rattle.std.specs.Prelude.{ℕ, ℤ, ◌+◌, ◌-◌, List, [], ◌∷◌, ◌++◌, map, codes, Option, None, Some, Result, Ok, Err}
 use Rattle.std.specs.Fmt.{decimal, signed_decimal}
-use Rattle.std.specs.List.{range_with_len, enumerate_from}
+use Rattle.std.specs.List.{range_with_len}
 use Rattle.sx_base.specs.declared.evidence.Span.{Span}
 use Rattle.sx_cell.specs.declared.cell.Kind.{Kind}
 use Rattle.sx_cell.specs.declared.cell.Kind.TheVariants.{TableLeaf, TableInner, IndexLeaf, IndexInner}
 use Rattle.sx_cell.specs.declared.cell.Cell.{Cell}
 use Rattle.sx_cell.specs.declared.cell.CellFault.{CellFault}
 use Rattle.sx_cell.specs.declared.cell.CellFault.TheVariants.{Outside, TooLong}
-use Rattle.sx_node.specs.Nodes.{NodePage, cell_count, first_freeblock, content_start, fragment_bytes, right_child, pointer_at, cell_in, node_of}
+use Rattle.sx_node.specs.Nodes.{NodePage, cell_count, first_freeblock, content_start, fragment_bytes, right_child, pointer_at, cell_in}
 use Rattle.sx_node.specs.Freeblocks.{freeblocks_of}
 use Rattle.sx_node.specs.declared.node.NodeFault.{NodeFault}
 use Rattle.sx_node.specs.declared.node.NodeFault.TheVariants.{BadFlag, BadArray}

@@ -13,12 +13,19 @@ use sx_header::Header;
 
 impl<'a> Case<'a> {
     /// The pages at a moment, and `None` exactly where the evidence doesn't hold that moment.
+    ///
+    /// The held pages are counted here. That costs at most a step for each page past the end of the file that the log or
+    /// the journal holds.
     pub fn snapshot(&self, moment: Moment) -> Option<Snapshot<'_, 'a>>
         ensures some { IfSome result (λ snapshot. (snapshot.case.now ≡ self.now) × (snapshot.moment ≡ moment)) }
         ensures none { is_some result ≡ is_moment self.now moment }
     {
         if self.has_moment(moment) {
-            Some(Snapshot { case: self, moment })
+            Some(Snapshot {
+                case: self,
+                moment,
+                held: self.held(moment),
+            })
         } else {
             None
         }
@@ -46,7 +53,7 @@ impl<'c, 'a> Pages<'a> for Snapshot<'c, 'a> {
     }
 
     fn held(&self) -> u32 {
-        self.case.held(self.moment)
+        self.held
     }
 
     fn held_at(&self, i: u32) -> u32 {

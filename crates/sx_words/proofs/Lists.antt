@@ -1,5 +1,5 @@
 -- Counting in a list that was mapped, and the first word that sets a key.
-use Rattle.std.proofs.Common.{◌≡◌, ℕ, suc, ◌+◌, ◌<◌, Bool, cond, List, [], ◌∷◌, ◌&&◌, ◌||◌, map, length, drop, get_or, Option, None, Some, String, string_bytes, refl, sym, ◌∙◌, ap, arith, add-one, drop-cons}
+use Rattle.std.proofs.Common.{◌≡◌, ℕ, suc, ◌+◌, ◌<◌, Bool, cond, List, [], ◌∷◌, map, length, drop, get_or, None, Some, String, string_bytes, refl, sym, ◌∙◌, ap, add-one, drop-cons}
 use Rattle.std.specs.Prelude.{count_by}
 use Rattle.std.proofs.lemmas.List.Folds.{list_all-map}
 use Rattle.std.proofs.lemmas.List.Sums.{sum_by-cons}

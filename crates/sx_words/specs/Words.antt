@@ -1,5 +1,5 @@
 -- The grammar of the words: the request that a list of words asks for, if it asks for one.
-use Rattle.std.specs.Prelude.{ℕ, ◌+◌, ◌==◌, Bool, true, false, not, ◌&&◌, ◌||◌, nat_lt, nat_le, if◌then◌else◌, List, [], ◌∷◌, map, is_some, count_by, slice_index, Option, None, Some, Result, Ok, Err, String, codes, bytes_eq, string_bytes}
+use Rattle.std.specs.Prelude.{ℕ, ◌==◌, Bool, not, ◌&&◌, ◌||◌, nat_lt, nat_le, if◌then◌else◌, List, [], ◌∷◌, map, is_some, count_by, slice_index, Option, None, Some, Result, Ok, Err, String, codes, bytes_eq, string_bytes}
 use Rattle.std.specs.List.{list_all, list_any, before_first, after_first}
 use Rattle.std.specs.Option.{option_map}
 use Rattle.std.specs.Str.{all_ascii_digits}

@@ -1,4 +1,4 @@
-use Rattle.std.proofs.Common.{◌≡◌, ◌++◌, Some, codes, sym, ◌∙◌, rules}
+use Rattle.std.proofs.Common.{◌≡◌, ◌++◌, Some, codes, sym, ◌∙◌}
 use Rattle.std.specs.Fmt.{decimal}
 use Rattle.sx_node.specs.Nodes.{right_child}
 use Rattle.sx_app.proofs.NodeCells.{next_right}
