@@ -9,6 +9,7 @@ mod cases;
 mod endless;
 mod journals;
 mod logs;
+mod nodes;
 
 // The text of `timeline` over the plain database.
 const PLAIN: &str =
@@ -17,6 +18,21 @@ const PLAIN: &str =
 // The text of `timeline` over the empty database.
 const EMPTY: &str =
     "database pagesize 512 usable 512 pages 1\nwal absent frames 0 committed 0 pending 0 foreign 0 broken 0\njournal absent records 0 good 0\n0 pages 1 held 1 uncertain 0\n";
+
+// What `page` prints of the first page of the plain database behind where it begins.
+const SCHEMA: &str =
+    "node leaftable cells 1 freeblock 0 content 446 fragments 0\ncell 0 at 446 bytes 66 payload 64 rowid 1\n";
+
+// What `page` prints of the second page of the plain database behind where it begins.
+const ROWS: &str =
+    "node leaftable cells 3 freeblock 0 content 484 fragments 0\ncell 0 at 502 bytes 10 payload 8 rowid 1\ncell 1 at 492 bytes 10 payload 8 rowid 2\ncell 2 at 484 bytes 8 payload 6 rowid 3\n";
+
+// What `page` prints of that page behind where it begins, after the second row was deleted.
+const DELETED: &str =
+    "node leaftable cells 2 freeblock 492 content 484 fragments 0\ncell 0 at 502 bytes 10 payload 8 rowid 1\ncell 1 at 484 bytes 8 payload 6 rowid 3\nfreeblock 0 at 492 bytes 10\n";
+
+// What `page` prints of the page of the empty database behind where it begins.
+const NO_CELLS: &str = "node leaftable cells 0 freeblock 0 content 512 fragments 0\n";
 
 // Zeros up to a place, and then these bytes.
 fn put(bytes: &mut Vec<u8>, at: usize, piece: &[u8]) -> Result<(), Fail> {
@@ -136,6 +152,27 @@ fn check(
     assert_eq!(rt; out.taken(), text.as_bytes(), "{text}");
     assert_eq!(rt; ended, end);
     Ok(())
+}
+
+// Whether `page` over these files says that the page begins there, and then prints these lines.
+fn check_page(
+    rt: &impl Abort,
+    alloc: Global,
+    named: &[(&str, &[u8])],
+    asked: [&str; 2],
+    begins: &str,
+    lines: &str,
+) -> Result<(), Fail> {
+    let [no, at] = asked;
+    let text = format!(in alloc; "page {begins}\n{lines}")?;
+    check(
+        rt,
+        alloc,
+        named,
+        &["a.db", "page", no, at],
+        0,
+        text.as_str(),
+    )
 }
 
 // The status that an examination of these files ends with, and what it wrote.

@@ -114,7 +114,7 @@ fn words_and_files_decide(rt: HostRuntime) -> Result<(), Fail> {
             &alone,
             &["a.db", "page", "no=2"],
             0,
-            "page 2 from database offset 512\n",
+            "page 2 from database offset 512\nnode leaftable cells 3 freeblock 0 content 484 fragments 0\ncell 0 at 502 bytes 10 payload 8 rowid 1\ncell 1 at 492 bytes 10 payload 8 rowid 2\ncell 2 at 484 bytes 8 payload 6 rowid 3\n",
         ),
         (
             &alone,

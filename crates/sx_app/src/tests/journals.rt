@@ -63,22 +63,14 @@ fn a_live_journal_gives_back_what_its_good_records_hold(rt: HostRuntime) -> Resu
         ("a.db", database.as_slice()),
         ("a.db-journal", bytes.as_slice()),
     ];
-    for (no, at, text) in [
-        ("no=2", "at=journal", "page 2 from journal offset 516\n"),
-        ("no=1", "at=journal", "page 1 from journal offset 2052\n"),
-        ("no=3", "at=journal", "page 3 absent\n"),
-        ("no=2", "at=0", "page 2 from database offset 512\n"),
+    for (no, at, begins, lines) in [
+        ("no=2", "at=journal", "2 from journal offset 516", ROWS),
+        ("no=1", "at=journal", "1 from journal offset 2052", SCHEMA),
+        ("no=3", "at=journal", "3 absent", ""),
+        ("no=2", "at=0", "2 from database offset 512", DELETED),
     ] {
-        check(&rt, alloc, &named, &["a.db", "page", no, at], 0, text)?;
+        check_page(&rt, alloc, &named, [no, at], begins, lines)?;
     }
-    check(
-        &rt,
-        alloc,
-        &named,
-        &["a.db", "page", "no=2"],
-        0,
-        "page 2 from database offset 512\n",
-    )?;
     Ok(())
 }
 
@@ -147,13 +139,12 @@ fn a_record_behind_a_bad_one_gives_nothing_back(rt: HostRuntime) -> Result<(), F
         ("a.db-journal", exchanged.as_slice()),
     ];
     check(&rt, alloc, &named, &["a.db", "timeline"], 0, text.as_str())?;
-    check(
+    check_page(
         &rt,
         alloc,
         &named,
-        &["a.db", "page", "no=1", "at=journal"],
-        0,
-        "page 1 from database offset 0\n",
-    )?;
-    Ok(())
+        ["no=1", "at=journal"],
+        "1 from database offset 0",
+        NO_CELLS,
+    )
 }

@@ -4,14 +4,14 @@ use sx_wal::sums;
 
 // A frame: the number of its page, the size in pages where it ends a commit, and the page.
 #[derive(Clone, Copy)]
-struct Frame<'p> {
-    page: u32,
-    size: u32,
-    image: &'p [u8],
+pub(super) struct Frame<'p> {
+    pub(super) page: u32,
+    pub(super) size: u32,
+    pub(super) image: &'p [u8],
 }
 
 // A log of pages of so many bytes, with the salts 1 and 2 and these frames. Big-endian sums where `big` says so.
-fn log(
+pub(super) fn log(
     rt: &impl Abort,
     alloc: Global,
     big: bool,
@@ -50,12 +50,12 @@ fn put_sums(bytes: &mut Vec<u8>, carried: (u32, u32)) -> Result<(), Fail> {
 }
 
 // The second page of a database of two.
-fn second(database: &[u8]) -> &[u8] {
+pub(super) fn second(database: &[u8]) -> &[u8] {
     database.get(512..).unwrap_or(&[])
 }
 
 // The plain database with a fourth row in the place of its second.
-fn row_replaced(alloc: Global) -> Result<Vec<u8>, Fail> {
+pub(super) fn row_replaced(alloc: Global) -> Result<Vec<u8>, Fail> {
     changed(
         alloc,
         &[
@@ -340,43 +340,32 @@ fn a_page_is_found_at_a_moment(rt: HostRuntime) -> Result<(), Fail> {
     });
     let wal = log(&rt, alloc, false, 512, &frames)?;
     let named: [(&str, &[u8]); 2] = [("a.db", plain.as_slice()), ("a.db-wal", wal.as_slice())];
-    for (at, end, text) in [
-        ("at=0", 0, "page 2 from database offset 512 uncertain\n"),
-        ("at=1", 0, "page 2 from wal offset 56\n"),
-        ("at=2", 0, "page 2 from wal offset 592\n"),
-        ("at=3", 5, "refused: no such moment; the last is 2\n"),
-        (
-            "at=4294967295",
+    for (no, at, begins, lines) in [
+        ("no=2", "at=0", "2 from database offset 512 uncertain", ROWS),
+        ("no=2", "at=1", "2 from wal offset 56", ROWS),
+        ("no=2", "at=2", "2 from wal offset 592", DELETED),
+        ("no=1", "at=2", "1 from database offset 0", SCHEMA),
+        ("no=3", "at=2", "3 absent", ""),
+    ] {
+        check_page(&rt, alloc, &named, [no, at], begins, lines)?;
+    }
+    for at in ["at=3", "at=4294967295", "at=journal"] {
+        check(
+            &rt,
+            alloc,
+            &named,
+            &["a.db", "page", "no=2", at],
             5,
             "refused: no such moment; the last is 2\n",
-        ),
-        ("at=journal", 5, "refused: no such moment; the last is 2\n"),
-    ] {
-        check(&rt, alloc, &named, &["a.db", "page", "no=2", at], end, text)?;
+        )?;
     }
+    let text = format!(in alloc; "page 2 from wal offset 592\n{DELETED}")?;
     check(
         &rt,
         alloc,
         &named,
         &["a.db", "page", "no=2"],
         0,
-        "page 2 from wal offset 592\n",
-    )?;
-    check(
-        &rt,
-        alloc,
-        &named,
-        &["a.db", "page", "no=3"],
-        0,
-        "page 3 absent\n",
-    )?;
-    check(
-        &rt,
-        alloc,
-        &named,
-        &["a.db", "page", "no=1"],
-        0,
-        "page 1 from database offset 0\n",
-    )?;
-    Ok(())
+        text.as_str(),
+    )
 }
