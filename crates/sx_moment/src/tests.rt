@@ -140,52 +140,94 @@ fn gathered<'a>(
 fn told(rt: &impl Abort, alloc: Global, case: &Case<'_>) -> Result<String, Fail> {
     let mut text = String::new(alloc);
     for i in 0..case.moments() {
-        let moment = case.moment(i);
-        let Some(snapshot) = case.snapshot(moment) else {
-            panic!(rt; "a listed moment has no snapshot");
-        };
-        match moment {
-            Moment::Journal => text.push_str("journal")?,
-            Moment::File => text.push_str("0")?,
-            Moment::Commit(k) => write!(text, "{k}")?,
-        }
-        let size = snapshot.size();
-        let held = snapshot.held();
-        let marks = snapshot.uncertain_count();
-        let head = if snapshot.head().is_some() {
-            ""
-        } else {
-            " no head"
-        };
-        writeln!(text, " pages {size} held {held} uncertain {marks}{head}")?;
-        tell_pages(rt, &mut text, snapshot)?;
+        tell_moment(rt, &mut text, case, case.moment(i))?;
     }
     Ok(text)
 }
 
-// The held pages of a snapshot, each with its place and its mark. They are asked by their place and walked over besides.
-fn tell_pages(rt: &impl Abort, text: &mut String, snapshot: Snapshot<'_, '_>) -> Result<(), Fail> {
+// The line of a moment, and those of its held pages. They are asked by their place and walked over besides.
+fn tell_moment(
+    rt: &impl Abort,
+    text: &mut String,
+    case: &Case<'_>,
+    moment: Moment,
+) -> Result<(), Fail> {
+    tell_name(text, moment)?;
+    let Some(snapshot) = case.snapshot(moment) else {
+        panic!(rt; "a listed moment has no snapshot");
+    };
+    tell_counts(text, &snapshot)?;
     let mut before = 0;
     for i in 0..snapshot.held() {
         let no = snapshot.held_at(i);
-        assert_eq!(rt; snapshot.next_held(before), Some(no));
+        assert!(rt; snapshot.next_held(before) == Some(no));
         before = no;
-        let Some(place) = snapshot.source(no) else {
-            panic!(rt; "a held page has no place");
-        };
-        let part = match place.part {
-            Part::Database => "database",
-            Part::Wal => "wal",
-            Part::Journal => "journal",
-        };
-        let offset = place.offset;
-        let mark = if snapshot.uncertain(no) {
-            " uncertain"
-        } else {
-            ""
-        };
-        writeln!(text, "{no} {part} {offset}{mark}")?;
+        tell_page(rt, text, &snapshot, no)?;
     }
-    assert_eq!(rt; snapshot.next_held(before), None);
+    assert!(rt; snapshot.next_held(before).is_none());
+    Ok(())
+}
+
+fn tell_name(text: &mut String, moment: Moment) -> Result<(), Fail> {
+    match moment {
+        Moment::Journal => text.push_str("journal")?,
+        Moment::File => text.push_str("0")?,
+        Moment::Commit(k) => write!(text, "{k}")?,
+    }
+    Ok(())
+}
+
+fn tell_counts(text: &mut String, snapshot: &Snapshot<'_, '_>) -> Result<(), Fail> {
+    let size = snapshot.size();
+    let held = snapshot.held();
+    let marks = snapshot.uncertain_count();
+    writeln!(text, " pages {size} held {held} uncertain {marks}")?;
+    if snapshot.head().is_none() {
+        text.push_str("no head\n")?;
+    }
+    Ok(())
+}
+
+// The line of a held page: its place and its mark.
+fn tell_page(
+    rt: &impl Abort,
+    text: &mut String,
+    snapshot: &Snapshot<'_, '_>,
+    no: u32,
+) -> Result<(), Fail> {
+    let Some(place) = snapshot.source(no) else {
+        panic!(rt; "a held page has no place");
+    };
+    let part = part_name(place.part);
+    let offset = place.offset;
+    let mark = if snapshot.uncertain(no) {
+        " uncertain"
+    } else {
+        ""
+    };
+    writeln!(text, "{no} {part} {offset}{mark}")?;
+    Ok(())
+}
+
+fn part_name(part: Part) -> &'static str {
+    match part {
+        Part::Database => "database",
+        Part::Wal => "wal",
+        Part::Journal => "journal",
+    }
+}
+
+// Checks what is told of a database of these pages and of what lies beside it.
+fn check(
+    rt: &impl Abort,
+    alloc: Global,
+    database: &[u8],
+    wal: Option<&[u8]>,
+    journal: Option<&[u8]>,
+    expected: &str,
+) -> Result<(), Fail> {
+    let case = gathered(rt, alloc, database, wal, journal)?;
+    let text = told(rt, alloc, &case)?;
+    assert!(rt; text.as_str() == expected, "{text}");
     Ok(())
 }

@@ -24,11 +24,24 @@ fn journal(alloc: Global, pages: u32, records: &[(u8, Image, u8)]) -> Result<Vec
     Ok(bytes)
 }
 
-#[test]
-fn a_live_journal_gives_back_its_pages(rt: HostRuntime) -> Result<(), Fail> {
-    let alloc = rt.alloc();
+// Checks what is told of the plain database with such a journal: a part of its own, and then the file's.
+fn check_journal(
+    rt: &impl Abort,
+    alloc: Global,
+    pages: u32,
+    records: &[(u8, Image, u8)],
+    expected: &str,
+) -> Result<(), Fail> {
     let plain = database(alloc, &[Image::Head(2), Image::Filled(7)])?;
-    let both = journal(
+    let journal = journal(alloc, pages, records)?;
+    check(rt, alloc, &plain, None, Some(&journal), expected)
+}
+
+#[test]
+fn good_records_are_given_back(rt: HostRuntime) -> Result<(), Fail> {
+    let alloc = rt.alloc();
+    check_journal(
+        &rt,
         alloc,
         2,
         &[
@@ -36,15 +49,10 @@ fn a_live_journal_gives_back_its_pages(rt: HostRuntime) -> Result<(), Fail> {
             (1, Image::Head(2), 0),
             (2, Image::Filled(6), 1),
         ],
+        "journal pages 2 held 2 uncertain 0\n1 journal 2052\n2 journal 516\n0 pages 2 held 2 uncertain 0\n1 database 0\n2 database 512\n",
     )?;
-    let file = "0 pages 2 held 2 uncertain 0\n1 database 0\n2 database 512\n";
-    let case = gathered(&rt, alloc, &plain, None, Some(&both))?;
-    let text = format!(in alloc;
-        "journal pages 2 held 2 uncertain 0\n1 journal 2052\n2 journal 516\n{file}"
-    )?;
-    assert_eq!(rt; told(&rt, alloc, &case)?.as_str(), text.as_str());
-    assert_eq!(rt; case.last(), Moment::File);
-    let early = journal(
+    check_journal(
+        &rt,
         alloc,
         2,
         &[
@@ -52,42 +60,38 @@ fn a_live_journal_gives_back_its_pages(rt: HostRuntime) -> Result<(), Fail> {
             (2, Image::Filled(6), 1),
             (1, Image::Head(2), 0),
         ],
-    )?;
-    let cut = gathered(&rt, alloc, &plain, None, Some(&early))?;
-    let text = format!(in alloc;
-        "journal pages 2 held 2 uncertain 0\n1 database 0\n2 journal 516\n{file}"
-    )?;
-    assert_eq!(rt; told(&rt, alloc, &cut)?.as_str(), text.as_str());
-    let twice = journal(
-        alloc,
+        "journal pages 2 held 2 uncertain 0\n1 database 0\n2 journal 516\n0 pages 2 held 2 uncertain 0\n1 database 0\n2 database 512\n",
+    )
+}
+
+#[test]
+fn the_first_record_of_a_page_counts(rt: HostRuntime) -> Result<(), Fail> {
+    check_journal(
+        &rt,
+        rt.alloc(),
         2,
         &[(2, Image::Filled(5), 0), (2, Image::Filled(6), 0)],
-    )?;
-    let first = gathered(&rt, alloc, &plain, None, Some(&twice))?;
-    assert_eq!(rt; told(&rt, alloc, &first)?.as_str(), text.as_str());
-    Ok(())
+        "journal pages 2 held 2 uncertain 0\n1 database 0\n2 journal 516\n0 pages 2 held 2 uncertain 0\n1 database 0\n2 database 512\n",
+    )
 }
 
 #[test]
 fn initial_sizes_of_all_kinds(rt: HostRuntime) -> Result<(), Fail> {
     let alloc = rt.alloc();
-    let plain = database(alloc, &[Image::Head(2), Image::Filled(7)])?;
-    let file = "0 pages 2 held 2 uncertain 0\n1 database 0\n2 database 512\n";
-    let none = journal(alloc, 0, &[(2, Image::Filled(5), 0)])?;
-    let case = gathered(&rt, alloc, &plain, None, Some(&none))?;
-    let text = format!(in alloc; "journal pages 0 held 0 uncertain 0 no head\n{file}")?;
-    assert_eq!(rt; told(&rt, alloc, &case)?.as_str(), text.as_str());
-    let all = journal(
+    check_journal(
+        &rt,
+        alloc,
+        0,
+        &[(2, Image::Filled(5), 0)],
+        "journal pages 0 held 0 uncertain 0\nno head\n0 pages 2 held 2 uncertain 0\n1 database 0\n2 database 512\n",
+    )?;
+    check_journal(
+        &rt,
         alloc,
         u32::MAX,
         &[(2, Image::Filled(5), 0), (9, Image::Filled(6), 0)],
-    )?;
-    let case = gathered(&rt, alloc, &plain, None, Some(&all))?;
-    let text = format!(in alloc;
-        "journal pages 4294967295 held 3 uncertain 0\n1 database 0\n2 journal 516\n9 journal 2052\n{file}"
-    )?;
-    assert_eq!(rt; told(&rt, alloc, &case)?.as_str(), text.as_str());
-    Ok(())
+        "journal pages 4294967295 held 3 uncertain 0\n1 database 0\n2 journal 516\n9 journal 2052\n0 pages 2 held 2 uncertain 0\n1 database 0\n2 database 512\n",
+    )
 }
 
 #[test]
@@ -96,10 +100,12 @@ fn a_live_journal_beside_a_log(rt: HostRuntime) -> Result<(), Fail> {
     let plain = database(alloc, &[Image::Head(2), Image::Filled(7)])?;
     let logged = log(alloc, &[(1, 0, Image::Head(2)), (2, 2, Image::Filled(7))])?;
     let one = journal(alloc, 2, &[(1, Image::Head(1), 0)])?;
-    let case = gathered(&rt, alloc, &plain, Some(&logged), Some(&one))?;
-    assert_eq!(rt;
-        told(&rt, alloc, &case)?.as_str(),
-        "journal pages 2 held 2 uncertain 1\n1 journal 516\n2 database 512 uncertain\n0 pages 2 held 2 uncertain 2\n1 database 0 uncertain\n2 database 512 uncertain\n1 pages 2 held 2 uncertain 0\n1 wal 56\n2 wal 592\n"
-    );
-    Ok(())
+    check(
+        &rt,
+        alloc,
+        &plain,
+        Some(&logged),
+        Some(&one),
+        "journal pages 2 held 2 uncertain 1\n1 journal 516\n2 database 512 uncertain\n0 pages 2 held 2 uncertain 2\n1 database 0 uncertain\n2 database 512 uncertain\n1 pages 2 held 2 uncertain 0\n1 wal 56\n2 wal 592\n",
+    )
 }
