@@ -23,7 +23,8 @@ fn check_changed(
 #[test]
 fn cells_are_printed_by_the_kind_of_their_page(rt: HostRuntime) -> Result<(), Fail> {
     let alloc = rt.alloc();
-    let mut database = plain_database(alloc)?;
+    let plain = plain_database(alloc)?;
+    let mut database = changed(alloc, &[(31, 3)])?;
     database.truncate(512);
     put(
         &mut database,
@@ -31,6 +32,7 @@ fn cells_are_printed_by_the_kind_of_their_page(rt: HostRuntime) -> Result<(), Fa
         &[5, 0, 0, 0, 1, 1, 251, 0, 0, 0, 0, 3, 1, 251],
     )?;
     put(&mut database, 1019, &[0, 0, 0, 3, 1])?;
+    put(&mut database, 1024, second(&plain))?;
     check_page(
         &rt,
         alloc,
