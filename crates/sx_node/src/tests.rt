@@ -5,7 +5,7 @@ use std::test::Fail;
 use sx_base::{Label, Span};
 use sx_cell::{Cell, CellFault, Kind};
 
-/// A leaf page of a table with the rows 1, 2 and 3, the first at the end of the page.
+/// A leaf page of a table with three rows, the first at the end of the page.
 fn three_rows() -> [u8; 512] {
     let mut page = [0; 512];
     page[..14].copy_from_slice(b"\x0d\x00\x00\x00\x03\x01\xe4\x00\x01\xf6\x01\xec\x01\xe4");

@@ -31,6 +31,40 @@ fn check_plain(
 }
 
 #[test]
+fn a_database_alone(rt: HostRuntime) -> Result<(), Fail> {
+    let alloc = rt.alloc();
+    let plain = database(alloc, &[Image::Head(2), Image::Filled(7)])?;
+    check(
+        &rt,
+        alloc,
+        &plain,
+        None,
+        None,
+        "0 pages 2 held 2 uncertain 0\n1 database 0\n2 database 512\n",
+    )
+}
+
+#[test]
+fn a_page_1_that_is_no_header(rt: HostRuntime) -> Result<(), Fail> {
+    check_plain(
+        &rt,
+        rt.alloc(),
+        &[(1, 2, Image::Filled(0))],
+        "0 pages 2 held 2 uncertain 0\n1 database 0\n2 database 512\n1 pages 2 held 2 uncertain 0\nno head\n1 wal 56\n2 database 512\n",
+    )
+}
+
+#[test]
+fn a_size_up_to_the_lock_byte_page(rt: HostRuntime) -> Result<(), Fail> {
+    check_plain(
+        &rt,
+        rt.alloc(),
+        &[(2, 2_097_153, Image::Filled(7))],
+        "0 pages 2 held 2 uncertain 1\n1 database 0\n2 database 512 uncertain\n1 pages 2097153 held 2 uncertain 0\n1 database 0\n2 wal 56\n",
+    )
+}
+
+#[test]
 fn commits_and_open_transactions(rt: HostRuntime) -> Result<(), Fail> {
     let alloc = rt.alloc();
     check_plain(
@@ -197,6 +231,25 @@ fn heads_give_layouts_and_encodings(rt: HostRuntime) -> Result<(), Fail> {
     assert!(rt; head_of(&case, Moment::Commit(0)).is_none());
     assert!(rt; head_of(&case, Moment::Commit(3)).is_none());
     assert!(rt; case.last() == Moment::Commit(2));
+    Ok(())
+}
+
+#[test]
+fn a_head_names_pointer_maps_and_a_freelist(rt: HostRuntime) -> Result<(), Fail> {
+    let alloc = rt.alloc();
+    let mut plain = database(alloc, &[Image::Head(2), Image::Filled(7)])?;
+    for at in [35, 55] {
+        if let Some(byte) = plain.get_mut(at) {
+            *byte = 9;
+        }
+    }
+    let case = gathered(&rt, alloc, &plain, None, None)?;
+    let Some(snapshot) = case.snapshot(Moment::File) else {
+        panic!(&rt; "the file has no moment");
+    };
+    let layout = snapshot.layout();
+    assert!(rt; layout.pointer_maps);
+    assert!(rt; layout.free_head == 9);
     Ok(())
 }
 
