@@ -103,6 +103,8 @@ fn real_files_are_loaded(rt: HostRuntime) -> Result<(), Fail> {
         let refused = load(alloc, &mut store, name).err();
         assert_eq!(rt; refused, Some(LoadRefused::ReadFault), "{name}");
     }
+    fs::remove_file(&rt, "evidence")?;
+    fs::remove_dir(&rt, "folder")?;
     Ok(())
 }
 
@@ -118,6 +120,7 @@ fn a_real_stream_is_written(rt: HostRuntime) -> Result<(), Fail> {
     // A file that was opened to be read alone takes nothing.
     let mut closed = StreamSink::new(fs::open(&rt, "answer")?);
     assert_eq!(rt; put_all(&mut closed, b"n"), Err(Failed));
+    fs::remove_file(&rt, "answer")?;
     Ok(())
 }
 
