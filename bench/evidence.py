@@ -1,0 +1,150 @@
+"""Makes the evidence that the two benchmarks run over: crafted logs, and what SQLite itself writes.
+
+A crafted log is written in seconds: the two sums of the checksum are linear, so what a whole page does to them is two
+numbers each, found once for each content of a page and then used for every frame that has it.
+"""
+
+import os
+import sqlite3
+import struct
+from pathlib import Path
+
+WORD = 2**32
+PAGE = 512
+SALTS = (0x5A49, 0x4E43)
+
+
+def summed(content, first=0, second=0):
+    """The two sums of a log's checksum over big-endian words, continued from `first` and `second`."""
+    for high, low in struct.iter_unpack(">II", content):
+        first = (first + high + second) % WORD
+        second = (second + low + first) % WORD
+    return first, second
+
+
+class Sums:
+    """What a piece of content does to the two sums: the sums after it are a linear function of those before it."""
+
+    def __init__(self, content):
+        self.start = summed(content)
+        nothing = bytes(len(content))
+        self.first = summed(nothing, 1, 0)
+        self.second = summed(nothing, 0, 1)
+
+    def after(self, first, second):
+        return tuple(
+            (start + first * one + second * two) % WORD
+            for start, one, two in zip(self.start, self.first, self.second)
+        )
+
+
+def header(page_size, pages):
+    """The first 100 bytes of a database without tables, whose two counters agree on its size."""
+    head = bytearray(100)
+    head[0:16] = b"SQLite format 3\0"
+    head[16:18] = (1 if page_size == 65536 else page_size).to_bytes(2, "big")
+    head[18:24] = bytes((2, 2, 0, 64, 32, 32))
+    for place, word in ((24, 1), (28, pages), (44, 4), (56, 1), (92, 1), (96, 3040001)):
+        head[place : place + 4] = word.to_bytes(4, "big")
+    return bytes(head)
+
+
+def leaf(page_size, number):
+    """An empty leaf of a table, behind the database's header on page 1."""
+    front = header(page_size, 1) if number == 1 else b""
+    node = b"\x0d\0\0\0\0" + (page_size % 65536).to_bytes(2, "big") + b"\0"
+    return (front + node).ljust(page_size, b"\0")
+
+
+def write_database(path, pages, page_size=PAGE):
+    """A database of empty pages."""
+    page = leaf(page_size, 2)
+    with open(path, "wb") as file:
+        file.write((header(page_size, pages) + leaf(page_size, 1)[100:]))
+        for _ in range(pages - 1):
+            file.write(page)
+
+
+def write_log(path, frames, page_size=PAGE):
+    """A log in good order whose frames are pairs: the number of the page, and the size where the frame is a commit. Each
+    frame's page is an empty leaf."""
+    page = leaf(page_size, 2)
+    over_page = Sums(page)
+    head = struct.pack(">IIIIII", 0x377F0683, 3007000, page_size, 0, *SALTS)
+    first, second = summed(head)
+    with open(path, "wb") as file:
+        file.write(head + struct.pack(">II", first, second))
+        for number, size in frames:
+            front = struct.pack(">II", number, size)
+            first, second = over_page.after(*summed(front, first, second))
+            file.write(front + struct.pack(">IIII", *SALTS, first, second) + page)
+
+
+def remove(path):
+    for ending in ("", "-wal", "-shm", "-journal"):
+        Path(f"{path}{ending}").unlink(missing_ok=True)
+
+
+def session(path, page_size, statements):
+    """A session of SQLite over a database with a log that is never checkpointed; what it wrote stays beside the database."""
+    remove(path)
+    work = f"{path}.work"
+    remove(work)
+    made = sqlite3.connect(work, isolation_level=None)
+    made.execute(f"PRAGMA page_size = {page_size}")
+    statements(made)
+    # While a connection is open, the log stands as it is: both files are copied before it is closed.
+    for ending in ("", "-wal"):
+        if os.path.exists(work + ending):
+            Path(f"{path}{ending}").write_bytes(Path(f"{work}{ending}").read_bytes())
+    made.close()
+    remove(work)
+
+
+def one_row_commits(count):
+    """A table of two columns, and then so many transactions that each insert one row."""
+
+    def statements(made):
+        made.execute("PRAGMA journal_mode = WAL")
+        made.execute("PRAGMA synchronous = OFF")
+        made.execute("PRAGMA wal_autocheckpoint = 0")
+        made.execute("CREATE TABLE entry(id INTEGER PRIMARY KEY, body TEXT)")
+        for i in range(count):
+            made.execute("INSERT INTO entry(body) VALUES (?)", (f"entry {i} of the journal of a day",))
+
+    return statements
+
+
+def busy(rows, commits, changed):
+    """A database of about 250 bytes a row in four tables with an index, and then a log of so many commits that each
+    change some rows."""
+
+    def statements(made):
+        made.execute("PRAGMA synchronous = OFF")
+        made.execute("PRAGMA journal_mode = OFF")
+        made.execute("BEGIN")
+        for table in ("message", "person", "call", "place"):
+            made.execute(f"CREATE TABLE {table}(id INTEGER PRIMARY KEY, sent INTEGER, name TEXT, body TEXT, extra BLOB)")
+            made.executemany(
+                f"INSERT INTO {table}(sent, name, body, extra) VALUES (?, ?, ?, ?)",
+                (
+                    (1700000000 + i * 37, f"name {i * 7919 % 100003}", f"the body of row {i} of {table}, " * 4, bytes((i * j) % 251 for j in range(40)))
+                    for i in range(rows // 4)
+                ),
+            )
+        made.execute("CREATE INDEX message_name ON message(name)")
+        made.execute("COMMIT")
+        made.execute("PRAGMA journal_mode = WAL")
+        made.execute("PRAGMA wal_autocheckpoint = 0")
+        for commit in range(commits):
+            made.execute("BEGIN")
+            for j in range(changed):
+                row = (commit * changed + j) * 7919 % (rows // 4) + 1
+                table = ("message", "person", "call", "place")[j % 4]
+                if j % 5 == 0:
+                    made.execute(f"DELETE FROM {table} WHERE id = ?", (row,))
+                else:
+                    made.execute(f"UPDATE {table} SET body = body || ? WHERE id = ?", (f" edited {commit}", row))
+            made.execute("COMMIT")
+
+    return statements
