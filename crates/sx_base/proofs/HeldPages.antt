@@ -14,14 +14,6 @@ pub held_is_there : (size : ℕ) (view : ℕ → Option (List ℕ)) (i : ℕ) �
 unfolding held_pages
 held_is_there size view i within = filter_meets (has_view view) (range_with_len 1 size) i within
 
--- so it isn't missing
-pub held_not_none : (size : ℕ) (view : ℕ → Option (List ℕ)) (i : ℕ) → i < length (held_pages size view)
-    → view (slice_index (held_pages size view) i) ≡ None → ⊥
-held_not_none size view i within none =
-    let there = held_is_there size view i within in
-    let never : false ≡ true = ap is_some (sym none) ∙ there in
-    cc
-
 -- no more are held than the size says
 pub held_few : (size : ℕ) (view : ℕ → Option (List ℕ)) → length (held_pages size view) ≤ size
 unfolding held_pages

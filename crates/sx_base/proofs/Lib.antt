@@ -1,3 +1,4 @@
 pub mod HeldPages
+pub mod Places
 pub mod Ranges
 pub mod SheetViews

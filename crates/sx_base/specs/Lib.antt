@@ -4,4 +4,5 @@ pub mod Files
 pub mod Held
 pub mod Labels
 pub mod Maps
+pub mod Places
 pub mod Sheets

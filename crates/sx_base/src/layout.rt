@@ -23,15 +23,24 @@ pub struct Layout {
     pub free_head: u32,
 }
 
+/// The number of the lock-byte page of a database with this page size, the page that holds the byte at 1,073,741,824
+/// ("The Lock-Byte Page"). Pages count from 1.
+///
+/// It is told for every database, also for one that ends before it. The page size isn't 0.
+pub fn lock_page(page_size: u32) -> u32
+    requires { 0 < page_size }
+    ensures { result ≡ lock_page_of page_size }
+{
+    LOCK_BYTE / page_size + 1
+}
+
 impl Layout {
-    /// The number of the lock-byte page, the one that holds the byte at 1,073,741,824 ("The Lock-Byte Page").
-    ///
-    /// It is told for every database, also for one that ends before it. The page size isn't 0.
+    /// The number of the lock-byte page, also where the database ends before it. The page size isn't 0.
     pub fn lock_page(&self) -> u32
         requires { 0 < self.now.page_size }
         ensures { result ≡ lock_page_of self.now.page_size }
     {
-        LOCK_BYTE / self.page_size + 1
+        lock_page(self.page_size)
     }
 
     /// Whether page `no` is a pointer-map page ("Pointer Map or Ptrmap Pages"). The page size isn't 0.

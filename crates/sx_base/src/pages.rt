@@ -1,5 +1,5 @@
 //! The pages of one moment, as borrowed views of the evidence.
-ghost use Rattle.std.specs.Prelude.{◌≡◌, ℕ, ◌<◌, List, Option, None, length, slice_index, option_copied, IfSome};
+ghost use Rattle.std.specs.Prelude.{◌≡◌, ℕ, ◌<◌, List, Option, Some, None, length, slice_index, option_copied, IfSome};
 ghost use Rattle.sx_base.specs.Held.{held_pages, held_after};
 
 /// What contracts see of the pages of one moment: the size in pages, the page size in bytes, and the view of each page by
@@ -22,11 +22,13 @@ pub trait PageViews {
 
 /// The pages of one moment. Each view is a borrow of the evidence with the lifetime `'a`, and no call takes memory.
 pub trait Pages<'a>: PageViews {
-    /// The size, in pages. Neither page 0 nor a page past the size has a view.
+    /// The size, in pages. Neither page 0 nor a page past the size has a view, and each view has as many bytes as the page
+    /// size.
     fn size(&self) -> u32
         ensures size { result ≡ Self.pages self.now }
         ensures within { (number : ℕ) → result < number → Self.view self.now number ≡ None }
-        ensures from_one { Self.view self.now 0 ≡ None };
+        ensures from_one { Self.view self.now 0 ≡ None }
+        ensures whole { (number : ℕ) → (page : List ℕ) → Self.view self.now number ≡ Some page → length page ≡ Self.page_size self.now };
 
     /// The bytes of page `no`, as many as the page size, and `None` exactly where it has no view.
     fn page(&self, no: u32) -> Option<&'a [u8]>
@@ -39,6 +41,8 @@ pub trait Pages<'a>: PageViews {
 
     /// The number of the page at place `i` among those that have a view, in rising order. Places count from 0, and `i`
     /// is below [`Pages::held`].
+    ///
+    /// A call may go through as many pages as are held below it: a walk over all of them goes by [`Pages::next_held`].
     fn held_at(&self, i: u32) -> u32
         requires { i < length (held_pages (Self.pages self.now) (Self.view self.now)) }
         ensures { result ≡ slice_index (held_pages (Self.pages self.now) (Self.view self.now)) i };
@@ -48,17 +52,4 @@ pub trait Pages<'a>: PageViews {
     /// A walk over all held pages goes by this call, from `after` 0 on.
     fn next_held(&self, after: u32) -> Option<u32>
         ensures { result ≡ held_after (Self.pages self.now) (Self.view self.now) after };
-}
-
-/// The view of the page at place `i` among those that have one. Places count from 0, and `i` is below
-/// [`Pages::held`].
-pub fn view_at<'a, P: Pages<'a>>(pages: &P, i: u32) -> &'a [u8]
-    requires { i < length (held_pages (P.pages pages.now) (P.view pages.now)) }
-    ensures view { P.view pages.now (slice_index (held_pages (P.pages pages.now) (P.view pages.now)) i) ≡ Some result.now }
-    ensures whole { length result.now ≡ P.page_size pages.now }
-{
-    match pages.page(pages.held_at(i)) {
-        Some(page) => page,
-        None => unreachable!(),
-    }
 }

@@ -102,6 +102,6 @@ fn held_pages_by_place(rt: HostRuntime) {
     for (place, page, bytes) in [(0, 1, b"one."), (1, 3, b"3..."), (2, 4, b"four")] {
         assert!(rt; place < pages.held());
         assert_eq!(rt; pages.held_at(place), page);
-        assert!(rt; view_at(&pages, place) == bytes.as_slice());
+        assert!(rt; pages.page(page) == Some(bytes.as_slice()));
     }
 }

@@ -4,9 +4,10 @@ use Rattle.std.proofs.Math.Seq.{get_or-append_seam}
 use Rattle.std.proofs.lemmas.List.{get_or-map, get_or_append_left, length-map, map-append, take_more}
 use Rattle.std.proofs.lemmas.List.Sums.{count_by_more_yes, sum_by-take-le}
 use Rattle.sx_chain.specs.declared.node.Node.{Node}
-use Rattle.sx_chain.specs.Newest.{has_number, last_place}
+use Rattle.sx_base.specs.Places.{last_place}
+use Rattle.sx_chain.specs.Newest.{has_number}
 use Rattle.sx_chain.specs.Links.{IsChained, numbers_of, links_of}
-use Rattle.sx_chain.proofs.Places.{reach, reach_within, last_place-zero, last_place-more, last_place-same, last_place-cut, last_place_passes}
+use Rattle.sx_base.proofs.Places.{reach, reach_within, last_place-zero, last_place-more, last_place-same, last_place-cut, last_place_passes}
 
 -- a number more at the end leaves the places before it as they are
 has_number-before : (numbers : List ℕ) (last number place : ℕ) → place < length numbers

@@ -1,7 +1,8 @@
 -- What the nodes and the heads of a list of numbers hold.
 use Rattle.std.specs.Prelude.{◌≡◌, ℕ, ◌^◌, ◌<◌, List, Option, None, length, map, slice_index, slice_index_or}
 use Rattle.sx_chain.specs.declared.node.Node.{Node}
-use Rattle.sx_chain.specs.Newest.{has_number, last_place}
+use Rattle.sx_base.specs.Places.{last_place}
+use Rattle.sx_chain.specs.Newest.{has_number}
 
 -- the numbers of the nodes
 abbrev pub numbers_of : List Node → List ℕ

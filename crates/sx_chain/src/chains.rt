@@ -1,6 +1,7 @@
 //! Chains of equal numbers.
 ghost use Rattle.std.specs.Prelude.{◌≡◌, ℕ, ◌+◌, ◌^◌, ◌<◌, ◌≤◌, ◌==◌, List, length, min, count_by, IfOk};
-ghost use Rattle.sx_chain.specs.Newest.{has_number, last_place};
+ghost use Rattle.sx_base.specs.Places.{last_place};
+ghost use Rattle.sx_chain.specs.Newest.{has_number};
 
 use crate::node::Node;
 use indexmap::IndexMap;

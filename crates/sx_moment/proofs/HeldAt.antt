@@ -8,7 +8,8 @@ use Rattle.std.proofs.lemmas.Bool.Decides.{nat_tests}
 use Rattle.sx_base.specs.Held.{held_pages, held_after}
 use Rattle.sx_base.specs.declared.moment.Moment.{Moment}
 use Rattle.sx_base.specs.declared.moment.Moment.TheVariants.{Journal, File, Commit}
-use Rattle.sx_chain.specs.Newest.{has_number, last_place}
+use Rattle.sx_base.specs.Places.{last_place}
+use Rattle.sx_chain.specs.Newest.{has_number}
 use Rattle.sx_moment.specs.Gathered.{Gathered, page_count, size_at, limit_at}
 use Rattle.sx_moment.specs.Views.{slot_pages, is_good_record, image_at, can_be_viewed, lock_in, file_page, origin_of, bytes_of, view_of}
 use Rattle.sx_moment.specs.Firsts.{Rises, first_in, taken, passes, file_pages, below}
@@ -16,7 +17,7 @@ use Rattle.sx_moment.specs.Parts.{file_pages_at, is_past, past_only, first_at, f
 use Rattle.sx_moment.specs.declared.first_image.FirstImage.{FirstImage}
 use Rattle.sx_moment.specs.declared.origin.Origin.{Origin}
 use Rattle.sx_moment.specs.declared.origin.Origin.TheVariants as origins
-use Rattle.sx_moment.proofs.FirstPlaces.{is_below, last_some, first_below, first_within}
+use Rattle.sx_base.proofs.Places.{is_below, last_some, first_below, first_within}
 use Rattle.sx_moment.proofs.Taken.{held_split}
 
 -- a first image below a bound

@@ -1,10 +1,10 @@
 pub mod Listed
 pub mod Taken
 pub mod FilePages
-pub mod FirstPlaces
 pub mod Noted
 pub mod Read
 pub mod Images
 pub mod HeldAt
 pub mod Moments
 pub mod Uncertain
+pub mod Lie

@@ -5,7 +5,7 @@ use Rattle.std.proofs.lemmas.Bool.Decides.{nat_tests}
 use Rattle.std.proofs.lemmas.Bool.{ltb-true, ltb-false, leb-true, leb-false, lt-ltb, le-ltb, and_parts, cases_lt}
 use Rattle.std.proofs.lemmas.List.{drop_more, get_or_default, get_or-drop, length-drop}
 use Rattle.sx_moment.specs.Firsts.{Rises, first_in, is_taken, taken, IsSearched, IsSearchedAbove}
-use Rattle.sx_moment.specs.Views.{first_of}
+use Rattle.sx_base.specs.Places.{first_of}
 use Rattle.sx_moment.specs.declared.first_image.FirstImage.{FirstImage}
 
 -- ---- by places

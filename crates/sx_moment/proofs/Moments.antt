@@ -8,13 +8,14 @@ use Rattle.std.proofs.lemmas.List.FromFn.{length-map-range_with_len, get_or-map-
 use Rattle.std.proofs.lemmas.Option.{slice_get-get_or}
 use Rattle.sx_base.specs.declared.moment.Moment.{Moment}
 use Rattle.sx_base.specs.declared.moment.Moment.TheVariants.{Journal, File, Commit}
-use Rattle.sx_chain.specs.Newest.{has_number, last_place}
-use Rattle.sx_chain.proofs.Places.{last_place_passes}
+use Rattle.sx_base.specs.Places.{last_place}
+use Rattle.sx_chain.specs.Newest.{has_number}
+use Rattle.sx_base.proofs.Places.{last_place_passes}
 use Rattle.sx_moment.specs.Gathered.{Gathered, limit_at, is_moment}
 use Rattle.sx_moment.specs.Views.{slot_pages, is_good_record, image_at}
 use Rattle.sx_moment.specs.Parts.{IsGathered, Stands, first_record}
 use Rattle.sx_moment.specs.declared.origin.Origin.TheVariants as origins
-use Rattle.sx_moment.proofs.FirstPlaces.{is_below, first_within}
+use Rattle.sx_base.proofs.Places.{is_below, first_within}
 
 -- the moments with a live journal or without, and so many commits
 abbrev listed : Bool → ℕ → List Moment

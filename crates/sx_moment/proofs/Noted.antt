@@ -6,12 +6,13 @@ use Rattle.std.proofs.lemmas.Bool.Decides.{nat_tests}
 use Rattle.sx_chain.specs.Newest.{has_number}
 use Rattle.sx_wal.specs.declared.slot.Slot.{Slot as LogSlot}
 use Rattle.sx_moment.specs.Gathered.{Gathered, slot_at, no_slot}
-use Rattle.sx_moment.specs.Views.{first_place, slot_pages, bytes_of}
+use Rattle.sx_base.specs.Places.{first_place}
+use Rattle.sx_moment.specs.Views.{slot_pages, bytes_of}
 use Rattle.std.specs.Str.{bytes_eq}
 use Rattle.sx_moment.specs.Marks.{is_committed, is_same}
 use Rattle.sx_moment.specs.declared.origin.Origin.TheVariants.{Database, Slot}
 use Rattle.sx_moment.specs.Parts.{noted, is_in_file}
-use Rattle.sx_moment.proofs.FirstPlaces.{or_first, first_place-more, some_place, some_place-more}
+use Rattle.sx_base.proofs.Places.{or_first, first_place-more, some_place, some_place-more}
 
 -- the page number of a slot
 pub page_of_slot : (case : Gathered) (i : ℕ) → slice_index (slot_pages case) i ≡ (slot_at case i).page

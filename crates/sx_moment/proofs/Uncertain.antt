@@ -6,7 +6,8 @@ use Rattle.std.proofs.lemmas.Bool.Decides.{nat_tests}
 use Rattle.sx_base.proofs.Ranges.{same_filter}
 use Rattle.sx_base.specs.declared.moment.Moment.{Moment}
 use Rattle.sx_base.specs.declared.moment.Moment.TheVariants.{Journal, File, Commit}
-use Rattle.sx_chain.specs.Newest.{has_number, last_place}
+use Rattle.sx_base.specs.Places.{last_place}
+use Rattle.sx_chain.specs.Newest.{has_number}
 use Rattle.sx_moment.specs.Gathered.{Gathered, page_count, size_at, limit_at}
 use Rattle.sx_moment.specs.Views.{slot_pages, image_at, can_be_viewed, lock_in, file_page, origin_of}
 use Rattle.sx_moment.specs.Marks.{is_same, is_database, is_uncertain, uncertain_pages}
@@ -15,7 +16,7 @@ use Rattle.sx_moment.specs.Parts.{first_at, bound_at, is_in_file, is_marked, mar
 use Rattle.sx_moment.specs.declared.first_image.FirstImage.{FirstImage}
 use Rattle.sx_moment.specs.declared.origin.Origin.{Origin}
 use Rattle.sx_moment.specs.declared.origin.Origin.TheVariants as origins
-use Rattle.sx_moment.proofs.FirstPlaces.{some_place, is_below, some_place-more, first_some, last_some}
+use Rattle.sx_base.proofs.Places.{some_place, is_below, some_place-more, first_some, last_some}
 use Rattle.std.specs.Prelude.{slice_get}
 use Rattle.std.proofs.Math.ListN.{drop_of_length-le}
 use Rattle.std.proofs.lemmas.Option.{get_or_from_slice_get, slice_get_within}

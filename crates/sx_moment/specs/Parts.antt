@@ -9,7 +9,8 @@ use Rattle.sx_header.specs.declared.header.Header.{Header}
 use Rattle.sx_wal.specs.Wal.{Wal}
 use Rattle.sx_journal.specs.Journal.{Journal}
 use Rattle.sx_moment.specs.Gathered.{Gathered, bytes_in, slot_at, entry_at, page_count, size_at, limit_at}
-use Rattle.sx_moment.specs.Views.{first_place, slot_pages, is_good_record, lock_in, image_at}
+use Rattle.sx_base.specs.Places.{first_place}
+use Rattle.sx_moment.specs.Views.{slot_pages, is_good_record, lock_in, image_at}
 use Rattle.sx_moment.specs.Marks.{is_same}
 use Rattle.sx_moment.specs.Firsts.{Rises, first_in, file_pages}
 use Rattle.sx_moment.specs.declared.origin.Origin.{Origin}

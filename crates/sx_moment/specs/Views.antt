@@ -1,26 +1,18 @@
 -- Where the bytes of a page stand at a moment ("Reader Algorithm", "The Rollback Journal", "The Lock-Byte Page").
-use Rattle.std.specs.Prelude.{ℕ, ◌-◌, ◌*◌, Bool, not, ◌&&◌, if◌then◌else◌, ◌==◌, nat_le, nat_lt, List, [], ◌∷◌, length, map, take, drop, filter, Option, None, Some}
+use Rattle.std.specs.Prelude.{ℕ, ◌+◌, ◌≤◌, ◌-◌, ◌*◌, Bool, not, ◌&&◌, if◌then◌else◌, ◌==◌, nat_le, nat_lt, List, length, map, take, drop, Option, None, Some}
 use Rattle.std.specs.Option.{option_map, option_or}
-use Rattle.std.specs.List.{range_with_len}
 use Rattle.sx_base.specs.Maps.{lock_page_of}
+use Rattle.sx_base.specs.declared.evidence.Part.{Part}
 use Rattle.sx_base.specs.declared.evidence.Part.TheVariants as parts
 use Rattle.sx_base.specs.declared.evidence.Place.{Place}
 use Rattle.sx_base.specs.declared.moment.Moment.{Moment}
 use Rattle.sx_base.specs.declared.moment.Moment.TheVariants.{Journal, File, Commit}
-use Rattle.sx_chain.specs.Newest.{has_number, last_place}
+use Rattle.sx_base.specs.Places.{first_place, last_place}
+use Rattle.sx_chain.specs.Newest.{has_number}
 use Rattle.sx_journal.specs.Entries.{is_good}
 use Rattle.sx_moment.specs.Gathered.{Gathered, bytes_in, slot_at, entry_at, page_count, size_at, limit_at}
 use Rattle.sx_moment.specs.declared.origin.Origin.{Origin}
 use Rattle.sx_moment.specs.declared.origin.Origin.TheVariants.{Database, Slot, Record}
-
--- the first of a list, if there is one
-abbrev pub first_of : List ℕ → Option ℕ
-first_of [] = None
-first_of (x ∷ xs) = Some x
-
--- the least place below a bound that passes a test, if there is one: the first that a filter of all places keeps
-unfoldable pub first_place : (ℕ → Bool) → ℕ → Option ℕ
-first_place test bound = first_of (filter test (range_with_len 0 bound))
 
 -- the page numbers of the slots, in file order
 abbrev pub slot_pages : Gathered → List ℕ
@@ -61,14 +53,23 @@ place_of case number Database = record { part = parts.Database; offset = (number
 place_of case number (Slot i) = record { part = parts.Wal; offset = (slot_at case i).offset }
 place_of case number (Record i) = record { part = parts.Journal; offset = (entry_at case i).offset }
 
--- the bytes that stand there
-abbrev pub page_at : Gathered → List ℕ → ℕ → List ℕ
-page_at case bytes offset = take case.header.page_size (drop offset bytes)
+-- the bytes of one of the files
+abbrev pub part_bytes : Gathered → Part → List ℕ
+part_bytes case parts.Database = case.database
+part_bytes case parts.Wal = bytes_in case.wal_bytes
+part_bytes case parts.Journal = bytes_in case.journal_bytes
 
+-- the bytes of a page from a place on
+abbrev pub bytes_from : Gathered → Place → List ℕ
+bytes_from case place = take case.header.page_size (drop place.offset (part_bytes case place.part))
+
+-- a place has the bytes of a whole page
+abbrev pub IsWhole : Gathered → Place → Type 0
+IsWhole case place = place.offset + case.header.page_size ≤ length (part_bytes case place.part)
+
+-- the bytes of a page's image
 abbrev pub bytes_of : Gathered → ℕ → Origin → List ℕ
-bytes_of case number Database = page_at case case.database (place_of case number Database).offset
-bytes_of case number (Slot i) = page_at case (bytes_in case.wal_bytes) (place_of case number (Slot i)).offset
-bytes_of case number (Record i) = page_at case (bytes_in case.journal_bytes) (place_of case number (Record i)).offset
+bytes_of case number origin = bytes_from case (place_of case number origin)
 
 -- the view of a page, if it has one: its bytes, and where they begin
 abbrev pub view_of : Gathered → Moment → ℕ → Option (List ℕ)

@@ -1,12 +1,13 @@
 //! A case: the evidence with its moments.
-ghost use Rattle.std.specs.Prelude.{◌≡◌, ℕ, ◌+◌, ◌^◌, ◌<◌, ◌≤◌, ◌++◌, if◌then◌else◌, IsTrue, None, Some, length, find, nat_lt, min, map, slice_get, slice_index, option_copied, IfOk, IfSome};
+ghost use Rattle.std.specs.Prelude.{◌≡◌, ℕ, ◌+◌, ◌^◌, ◌<◌, ◌≤◌, ◌++◌, if◌then◌else◌, IsTrue, List, None, Some, length, find, nat_lt, min, map, slice_get, slice_index, option_copied, IfOk, IfSome};
 ghost use Rattle.std.specs.List.{last_or};
 ghost use Rattle.std.specs.Option.{option_map};
 ghost use Rattle.sx_base.specs.Held.{held_pages, held_after};
+ghost use Rattle.sx_base.specs.declared.evidence.Place.{Place};
 ghost use Rattle.sx_header.specs.Header.{HasRanges, header_of};
 ghost use Rattle.sx_moment.specs.Heads.{accepted, head_of, layout_of, encoding_at, FitsPages, IsLayout};
 ghost use Rattle.sx_moment.specs.Gathered.{gathered, page_count, size_at, limit_at, is_live, is_moment, moments_of};
-ghost use Rattle.sx_moment.specs.Views.{slot_pages, image_at, origin_of, view_of, source_of, bytes_of, place_of};
+ghost use Rattle.sx_moment.specs.Views.{slot_pages, image_at, origin_of, view_of, source_of, bytes_of, place_of, bytes_from, IsWhole};
 ghost use Rattle.sx_moment.specs.Marks.{is_uncertain, uncertain_pages};
 ghost use Rattle.sx_moment.specs.Firsts.{Rises, first_in, is_taken};
 ghost use Rattle.sx_moment.specs.Parts.{IsSmall, past_only, Stands, first_slot, first_at, bound_at, is_bare, file_pages_at};
@@ -159,6 +160,17 @@ impl<'a> Case<'a> {
         ensures { result ≡ is_moment self.now moment }
     {
         self.sources.has_moment(moment)
+    }
+
+    /// Each view of a moment lies wholly within one file: it is the page size's bytes there, from its source on. This is a
+    /// law of the definitions; the function has no code.
+    pub(crate) fn views_lie(&self, moment: Moment)
+        requires { IsTrue (is_moment self.now moment) }
+        ensures lie { (number : ℕ) → (place : Place) → source_of self.now moment number ≡ Some place
+            → IsWhole self.now place × (view_of self.now moment number ≡ Some (bytes_from self.now place)) }
+        ensures long { (number : ℕ) → (page : List ℕ) → view_of self.now moment number ≡ Some page → length page ≡ self.now.header.page_size }
+    {
+        let _sources = &self.sources;
     }
 
     /// The size of a moment in pages.

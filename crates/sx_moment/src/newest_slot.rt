@@ -1,6 +1,7 @@
 //! The newest slot of a page, without a count of steps.
 ghost use Rattle.std.specs.Prelude.{◌≡◌, ◌<◌, length, min};
-ghost use Rattle.sx_chain.specs.Newest.{has_number, last_place};
+ghost use Rattle.sx_base.specs.Places.{last_place};
+ghost use Rattle.sx_chain.specs.Newest.{has_number};
 
 use std::marker::Brand;
 use std::sync::ledger::{Blank, Ledger};

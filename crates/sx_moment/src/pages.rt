@@ -1,7 +1,8 @@
 //! What a snapshot answers.
-ghost use Rattle.std.specs.Prelude.{◌≡◌, Some, None, length, is_some, IfSome};
+ghost use Rattle.std.specs.Prelude.{◌≡◌, ℕ, Some, None, length, is_some, IfSome};
 ghost use Rattle.sx_moment.specs.Gathered.{is_moment, size_at};
-ghost use Rattle.sx_moment.specs.Views.{source_of, view_of};
+ghost use Rattle.sx_moment.specs.Views.{source_of, view_of, bytes_from, IsWhole};
+ghost use Rattle.sx_base.specs.declared.evidence.Place.{Place};
 ghost use Rattle.sx_moment.specs.Marks.{is_uncertain, uncertain_pages};
 ghost use Rattle.sx_moment.specs.Heads.{head_of, layout_of, encoding_at, IsLayout};
 
@@ -45,6 +46,7 @@ impl<'c, 'a> PageViews for Snapshot<'c, 'a> {
 
 impl<'c, 'a> Pages<'a> for Snapshot<'c, 'a> {
     fn size(&self) -> u32 {
+        self.case.views_lie(self.moment);
         self.case.size(self.moment)
     }
 
@@ -66,6 +68,15 @@ impl<'c, 'a> Pages<'a> for Snapshot<'c, 'a> {
 }
 
 impl<'c, 'a> Snapshot<'c, 'a> {
+    /// Each view lies wholly within one file: it is the page size's bytes there, from its source on. This is a law of the
+    /// definitions; the function has no code.
+    pub fn views_lie(&self)
+        ensures { (number : ℕ) → (place : Place) → source_of self.now.case.now self.now.moment number ≡ Some place
+            → IsWhole self.now.case.now place × (view_of self.now.case.now self.now.moment number ≡ Some (bytes_from self.now.case.now place)) }
+    {
+        self.case.views_lie(self.moment);
+    }
+
     /// The place in the evidence where the view of page `no` begins, and `None` exactly where it has no view.
     pub fn source(&self, no: u32) -> Option<Place>
         ensures { result ≡ source_of self.now.case.now self.now.moment no }

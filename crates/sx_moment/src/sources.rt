@@ -10,13 +10,10 @@ use crate::evidence::Evidence;
 use crate::origin::Origin;
 use std::alloc::{AllocError, Global};
 use std::marker::Model;
-use sx_base::{Class, Moment, Part, Place};
+use sx_base::{Class, Moment, Part, Place, lock_page};
 use sx_header::Header;
 use sx_journal::{Entry, JournalIndex, JournalState, entries_lie_in_file, read_journal};
 use sx_wal::{Slot, WalIndex, read_wal, slots_stand};
-
-/// The byte of the database file at which locks are taken ("The Lock-Byte Page").
-const LOCK_BYTE: u32 = 0x4000_0000;
 
 /// The evidence, its database's header, and what its log and its journal were read as.
 #[derive(Drop)]
@@ -142,7 +139,7 @@ impl<'a> Sources<'a> {
         ensures value { result ≡ lock_in self.now }
         ensures first { 1 ≤ result }
     {
-        LOCK_BYTE / self.header.page_size + 1
+        lock_page(self.header.page_size)
     }
 
     /// The size in pages of the file's own state ("In-header Database Size").

@@ -1,7 +1,8 @@
 use Rattle.std.proofs.Common.{◌≡◌, ℕ}
 use Rattle.std.specs.Ordering.{nat_cmp}
 use Rattle.std.specs.BTreeMap.{get}
-use Rattle.sx_moment.specs.Views.{first_place, is_good_record}
+use Rattle.sx_base.specs.Places.{first_place}
+use Rattle.sx_moment.specs.Views.{is_good_record}
 use Rattle.sx_moment.proofs.gathering.first_records.Given as goal
 
 -- the first of the Good records so far

@@ -2,7 +2,8 @@ use Rattle.std.proofs.Common.{◌≡◌, ℕ}
 use Rattle.std.specs.Ordering.{nat_cmp}
 use Rattle.std.specs.BTreeMap.{get}
 use Rattle.sx_chain.specs.Newest.{has_number}
-use Rattle.sx_moment.specs.Views.{first_place, slot_pages}
+use Rattle.sx_base.specs.Places.{first_place}
+use Rattle.sx_moment.specs.Views.{slot_pages}
 use Rattle.sx_moment.proofs.gathering.first_slots.Given as goal
 
 -- the first of the slots so far

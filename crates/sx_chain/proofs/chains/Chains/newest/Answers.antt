@@ -1,8 +1,9 @@
 use Rattle.std.proofs.Common.{◌≡◌, ◌<◌, nat_eq, length, slice_index, ◌∙◌, arith}
 use Rattle.indexmap.specs.IndexMap.{get}
-use Rattle.sx_chain.specs.Newest.{has_number, last_place}
+use Rattle.sx_base.specs.Places.{last_place}
+use Rattle.sx_chain.specs.Newest.{has_number}
 use Rattle.sx_chain.specs.Links.{numbers_of}
-use Rattle.sx_chain.proofs.Places.{reach}
+use Rattle.sx_base.proofs.Places.{reach}
 use Rattle.sx_chain.proofs.Linked.{along_head, along_link, link_read, link_falls}
 use Rattle.sx_chain.proofs.chains.Chains.newest.Given
 use Rattle.sx_chain.proofs.chains.Chains.newest.Goals as goal

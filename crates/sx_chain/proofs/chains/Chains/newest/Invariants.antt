@@ -1,6 +1,6 @@
 use Rattle.sx_chain.specs.Links.{numbers_of}
 use Rattle.sx_chain.proofs.Linked.{IsAlong}
-use Rattle.sx_chain.proofs.Places.{reach}
+use Rattle.sx_base.proofs.Places.{reach}
 use Rattle.sx_chain.proofs.chains.Chains.newest.Given as goal
 
 abbrev pub invariant-loop-found : goal.invariant-loop-found

@@ -1,6 +1,6 @@
 use Rattle.std.proofs.Common.{◌≡◌, drop, find, nat_lt}
 use Rattle.sx_moment.specs.Firsts.{below, taken}
-use Rattle.sx_moment.specs.Views.{first_of}
+use Rattle.sx_base.specs.Places.{first_of}
 use Rattle.sx_moment.proofs.first_images.FirstImages.taken_after.Given as goal
 
 -- the page is the first of those to come
