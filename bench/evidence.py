@@ -80,6 +80,12 @@ def write_log(path, frames, page_size=PAGE):
             file.write(front + struct.pack(">IIII", *SALTS, first, second) + page)
 
 
+def craft(path, pages, frames):
+    """A database of so many empty pages, and a log of these frames."""
+    write_database(path, pages)
+    write_log(f"{path}-wal", frames)
+
+
 def remove(path):
     for ending in ("", "-wal", "-shm", "-journal"):
         Path(f"{path}{ending}").unlink(missing_ok=True)

@@ -23,5 +23,21 @@ def best(*words, turns=3):
     return min(seconds(*words) for _ in range(turns))
 
 
+def apart(make):
+    """Makes evidence in a process of its own: what that needs of memory would count as the measured program's."""
+    maker = os.fork()
+    if maker == 0:
+        make()
+        os._exit(0)
+    if os.waitpid(maker, 0)[1] != 0:
+        raise SystemExit("bench: the evidence could not be made")
+
+
+def memory_of(peak, case):
+    """The peak memory in KB as a share of the files' bytes, where these are many enough for that to say something."""
+    size = sum(Path(path).stat().st_size for path in files_of(case))
+    return f"; memory {peak * 1024 / size:.2f} times the files" if size >= 64_000_000 else ""
+
+
 def files_of(case):
     return [path for path in (f"{case}{ending}" for ending in ("", "-wal", "-journal")) if os.path.exists(path)]
