@@ -1,7 +1,7 @@
 -- What came before is below 2^56, so that eight bits more fit.
 use Rattle.std.proofs.Common.{◌^◌, ◌≤◌, rules}
 use Rattle.sx_bytes.proofs.VarintLemmas.{at_most_eight}
-use Rattle.sx_bytes.proofs.varints.varint.Goals as goal
+use Rattle.sx_bytes.proofs.varints.longer_varint.Goals as goal
 
 pub overflow_add-result-then-byte-lt128 : goal.overflow_add-result-then-byte-lt128
 overflow_add-result-then-byte-lt128 c =

@@ -1,6 +1,6 @@
 use Rattle.std.proofs.Common.{◌≡◌, ◌^◌, ◌<◌, ◌≤◌, drop}
 use Rattle.sx_bytes.specs.Varints.{varint_from, varint_at}
-use Rattle.sx_bytes.proofs.varints.varint.Given as goal
+use Rattle.sx_bytes.proofs.varints.longer_varint.Given as goal
 
 abbrev pub invariant-loop-read : goal.invariant-loop-read
 invariant-loop-read l = record {
