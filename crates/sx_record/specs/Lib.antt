@@ -5,6 +5,8 @@ pub mod Layout
 pub mod Places
 pub mod Records
 pub mod SerialTypes
+pub mod Spelled
+pub mod Standing
 pub mod Surveys
 pub mod Text
 pub mod Utf16
