@@ -1,4 +1,5 @@
 pub mod Characters
+pub mod Codes
 pub mod Columns
 pub mod Digits
 pub mod Fronts

@@ -1,7 +1,7 @@
 -- The serial types at the front of a header, one at a time, and that they are those that the bytes spell.
 use Rattle.std.proofs.Common.{◌≡◌, ◌↔◌, ℕ, zero, suc, ◌<◌, ◌≤◌, List, [], ◌∷◌, length, drop, Option, Some, None, refl, sym, ap, subst, ◌∙◌, arith, length-drop}
 use Rattle.std.specs.Prelude.{IsNone}
-use Rattle.sx_bytes.specs.Varints.{varint_at, BeginsWith, EndsInside}
+use Rattle.sx_bytes.specs.Varints.{varint_at}
 use Rattle.sx_bytes.proofs.VarintLemmas.{found, found_back, none_ends}
 use Rattle.sx_record.specs.Spelled.{spelled_first, spelled_within, spelled_types, AreSpelled}
 use Rattle.sx_record.proofs.Columns.{some_read}

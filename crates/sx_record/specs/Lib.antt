@@ -1,4 +1,5 @@
 pub mod Characters
+pub mod Codes
 pub mod Content
 pub mod Escape
 pub mod Layout

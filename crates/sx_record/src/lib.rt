@@ -21,6 +21,7 @@ pub use serial::{body_len, is_unused, value_in};
 pub use text::{put_text, put_value, value_text};
 pub use types::{SerialTypes, serial_types, serial_types_both_ways};
 pub use utf8::{each_byte_is_printed_by_its_place, sequences_are_characters};
+pub use utf16::each_code_point_is_printed_by_itself;
 pub use value::Value;
 pub use values::Values;
 

@@ -1,7 +1,9 @@
 //! Texts in UTF-16 as they are printed.
-ghost use Rattle.std.specs.Prelude.{◌≡◌, ◌++◌, ◌∷◌, ◌≤◌, length, IfOk, OnOk};
+ghost use Rattle.std.specs.Prelude.{◌≡◌, List, ℕ, ◌++◌, ◌∷◌, ◌≤◌, length, IfOk, OnOk};
 ghost use Rattle.std.specs.String.{string_bytes};
-ghost use Rattle.sx_bytes.specs.Decoding.{units_of, odd_byte};
+ghost use Rattle.sx_bytes.specs.declared.encoding.Encoding.{Encoding};
+ghost use Rattle.sx_bytes.specs.Decoding.{units_of, odd_byte, IsBytes};
+ghost use Rattle.sx_record.specs.Codes.{IsPrintedByCodes};
 ghost use Rattle.sx_record.specs.Utf16.{units_text, last_text, utf16_text};
 
 use crate::escape::{put_escaped_byte, put_unit};
@@ -51,3 +53,10 @@ fn put_first<'a>(
     put_unit(line, unit)?;
     Ok(behind)
 }
+
+/// A text is printed code point by code point: what stands for a unit by itself, or the UTF-8 of a character that has
+/// two. This is a law of the definitions; the function has no code.
+#[tactic(auto, using(crate::proofs::Codes::printed_by_codes))]
+pub fn each_code_point_is_printed_by_itself()
+    ensures { (encoding : Encoding) (bytes : List ℕ) → IsBytes bytes → IsPrintedByCodes encoding bytes (utf16_text encoding bytes) }
+{}
