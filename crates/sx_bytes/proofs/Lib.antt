@@ -1,4 +1,5 @@
 pub mod Joining
+pub mod Matching
 pub mod PageSizeLemmas
 pub mod Spelling
 pub mod VarintLemmas

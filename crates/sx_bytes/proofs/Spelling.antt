@@ -16,7 +16,7 @@ use Rattle.sx_bytes.specs.Decoding.{unit_of, units_of, unit_bytes, joined, decod
 
 -- ---- units and their bytes
 
-pair_bytes : (encoding : Encoding) (first second : ℕ) → first < 256 → second < 256 → unit_bytes encoding (unit_of encoding first second) ≡ first ∷ second ∷ []
+pub pair_bytes : (encoding : Encoding) (first second : ℕ) → first < 256 → second < 256 → unit_bytes encoding (unit_of encoding first second) ≡ first ∷ second ∷ []
 pair_bytes Utf8 first second low high = ap₂ (λ (x y : ℕ). x ∷ y ∷ []) (omega arith) (omega arith)
 pair_bytes Utf16Le first second low high = ap₂ (λ (x y : ℕ). x ∷ y ∷ []) (omega arith) (omega arith)
 pair_bytes Utf16Be first second low high = ap₂ (λ (x y : ℕ). x ∷ y ∷ []) (omega arith) (omega arith)
@@ -37,11 +37,11 @@ bytes_back encoding (first ∷ second ∷ rest) small even =
     rw here (ap (λ bytes. first ∷ second ∷ bytes) behind)
 
 -- each number is a unit
-abbrev IsUnits : List ℕ → Type 0
+abbrev pub IsUnits : List ℕ → Type 0
 IsUnits [] = Unit {0}
 IsUnits (unit ∷ units) = (unit < 0x1_0000) × IsUnits units
 
-units_small : (encoding : Encoding) (bytes : List ℕ) → IsBytes bytes → IsUnits (units_of encoding bytes)
+pub units_small : (encoding : Encoding) (bytes : List ℕ) → IsBytes bytes → IsUnits (units_of encoding bytes)
 unfolding units_of
 units_small encoding [] small = tt
 units_small encoding (byte ∷ []) small = tt

@@ -1,5 +1,5 @@
 -- Reading a variable-length integer and spelling one fit each other.
-use Rattle.std.proofs.Common.{◌≡◌, ◌⊎◌, inl, inr, ℕ, ◌+◌, ◌*◌, ◌%◌, ◌^◌, ◌<◌, ◌≤◌, List, [], ◌∷◌, ◌++◌, length, take, ◌↔◌, Option, Some, None, refl, sym, ap, ◌∙◌, arith}
+use Rattle.std.proofs.Common.{◌≡◌, ◌⊎◌, inl, inr, ℕ, ◌+◌, ◌*◌, ◌%◌, ◌^◌, ◌<◌, ◌≤◌, nat_lt, true, List, [], ◌∷◌, ◌++◌, length, take, slice_index, ◌↔◌, Option, Some, None, refl, sym, ap, ◌∙◌, arith}
 use Rattle.std.specs.Prelude.{IsNone}
 use Rattle.std.specs.List.{AllByRecursion}
 use Rattle.std.proofs.Math.Nat.{pow-le-pow_right}
@@ -7,7 +7,7 @@ use Rattle.std.proofs.lemmas.Bool.{cases_lt, cases_eq}
 use Rattle.std.proofs.lemmas.Bool.Decides.{nat_tests}
 use Rattle.std.proofs.lemmas.List.{take_at}
 use Rattle.std.proofs.lemmas.List.Elements.{All-from_recursion, recursion_from_All}
-use Rattle.sx_bytes.specs.Varints.{IsRest, IsVarint, BeginsWith, EndsInside, varint_from, varint_at}
+use Rattle.sx_bytes.specs.Varints.{IsRest, IsVarint, BeginsWith, EndsInside, varint_from, varint_at, shortest, short_at}
 
 -- what so many bytes of seven bits give at most
 pub at_most_eight : (read : ℕ) → read ≤ 8 → 128 ^ read ≤ 128 ^ 8
@@ -52,6 +52,20 @@ read_in (Some found) = found.1
 
 again_pair : (v w m n : ℕ) → v ≡ w → m ≡ n → found_pair v m ≡ found_pair w n
 again_pair v w m n p q = cc
+
+-- a number of one byte, and that it is in its shortest spelling
+pub one_byte : (bytes : List ℕ) (byte : ℕ) → 0 < length bytes → slice_index bytes 0 ≡ byte → byte < 128 → varint_at bytes ≡ Some (byte, 1)
+unfolding varint_at
+one_byte [] byte some is small = absurd (omega arith)
+one_byte (first ∷ bytes) byte some is small =
+    let low : nat_lt first 128 ≡ true = grind (arith, nat_tests) in
+    rw low (again_pair (0 * 128 + first) byte 1 1 (omega arith) refl)
+
+pub short_byte : (bytes : List ℕ) (byte : ℕ) → 0 < length bytes → slice_index bytes 0 ≡ byte → byte < 128 → short_at bytes ≡ Some (byte, 1)
+unfolding short_at shortest
+short_byte bytes byte some is small =
+    let below : nat_lt byte (2 ^ 7) ≡ true = grind (arith, nat_tests) in
+    rw (one_byte bytes byte some is small, below) refl
 
 same_value : (v w m n : ℕ) → found_pair v m ≡ found_pair w n → v ≡ w
 same_value v w m n is = ap value_in is

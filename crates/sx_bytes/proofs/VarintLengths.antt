@@ -3,6 +3,7 @@ use Rattle.std.proofs.Common.{◌≡◌, ◌⊎◌, inl, inr, ℕ, zero, suc, �
 use Rattle.std.proofs.Math.Nat.{mul-le-mul_right, pow-suc, mul_assoc, mul_comm, div-add-mod', mod-lt}
 use Rattle.std.proofs.lemmas.Bool.{cases_lt}
 use Rattle.std.proofs.lemmas.Bool.Decides.{nat_tests}
+use Rattle.sx_bytes.specs.Decoding.{IsBytes}
 use Rattle.sx_bytes.specs.Varints.{IsRest, IsVarint, shortest}
 
 -- fewer than nine bytes give seven bits each
@@ -60,6 +61,13 @@ length-front : (count high : ℕ) (tail : List ℕ) → length (front count high
 length-front zero high tail = omega arith
 length-front (suc more) high tail = omega (arith, length-front more (high / 128) ((128 + high % 128) ∷ tail))
 
+-- they are bytes
+front_bytes : (count high : ℕ) (tail : List ℕ) → IsBytes tail → IsBytes (front count high tail)
+front_bytes zero high tail small = small
+front_bytes (suc more) high tail small =
+    let low : high % 128 < 128 = mod-lt high (omega arith) in
+    front_bytes more (high / 128) ((128 + high % 128) ∷ tail) (omega arith, small)
+
 front_rest : (read high value c : ℕ) (tail : List ℕ) → read < 8 → IsRest (read + 1) high (c ∷ tail) value
     → IsRest read (high / 128) ((128 + high % 128) ∷ c ∷ tail) value
 front_rest read high value c tail few is =
@@ -79,7 +87,7 @@ front_is (suc more) high value c tail few small is =
 
 -- a spelling that is as short as any
 abbrev AsShort : ℕ → Type 0
-AsShort value = (text : List ℕ) × IsVarint text value × (length text ≡ shortest value)
+AsShort value = (text : List ℕ) × IsBytes text × IsVarint text value × (length text ≡ shortest value)
 
 of_seven : (value more : ℕ) → more < 8 → value < 128 ^ suc more → shortest value ≡ suc more → AsShort value
 of_seven value more few small long =
@@ -88,7 +96,7 @@ of_seven value more few small long =
     let whole : value ≡ value / 128 * 128 + value % 128 = sym (div-add-mod' value 128) in
     let spelling = front_is more (value / 128) value (value % 128) [] (omega arith) less (inr (few, ends, whole)) in
     let many : length (front more (value / 128) (value % 128 ∷ [])) ≡ more + 1 = length-front more (value / 128) (value % 128 ∷ []) in
-    (front more (value / 128) (value % 128 ∷ []), spelling, omega (arith, many, long))
+    (front more (value / 128) (value % 128 ∷ []), front_bytes more (value / 128) (value % 128 ∷ []) (omega arith, tt), spelling, omega (arith, many, long))
 
 of_eight : (value : ℕ) → value < 2 ^ 64 → shortest value ≡ 9 → AsShort value
 of_eight value small long =
@@ -96,7 +104,8 @@ of_eight value small long =
     let whole : value ≡ value / 256 * 256 + value % 256 = sym (div-add-mod' value 256) in
     let spelling = front_is 8 (value / 256) value (value % 256) [] (omega arith) less (inl (refl, whole)) in
     let many : length (front 8 (value / 256) (value % 256 ∷ [])) ≡ 8 + 1 = length-front 8 (value / 256) (value % 256 ∷ []) in
-    (front 8 (value / 256) (value % 256 ∷ []), spelling, omega (arith, many, long))
+    let last : value % 256 < 256 = mod-lt value (omega arith) in
+    (front 8 (value / 256) (value % 256 ∷ []), front_bytes 8 (value / 256) (value % 256 ∷ []) (last, tt), spelling, omega (arith, many, long))
 
 -- how long the shortest is, between two powers
 shortest_is : (value more : ℕ) → more < 8 → (more ≡ 0) ⊎ (128 ^ more ≤ value) → value < 128 ^ suc more → shortest value ≡ suc more
@@ -128,5 +137,5 @@ as_short_from (suc left) more value all above small =
     ]
 
 -- one spelling is as short
-pub one_as_short : (value : ℕ) → value < 2 ^ 64 → (text : List ℕ) × IsVarint text value × (length text ≡ shortest value)
+pub one_as_short : (value : ℕ) → value < 2 ^ 64 → (text : List ℕ) × IsBytes text × IsVarint text value × (length text ≡ shortest value)
 one_as_short value small = as_short_from 8 0 value refl (inl refl) small

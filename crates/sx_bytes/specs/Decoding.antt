@@ -1,6 +1,7 @@
 -- The bytes of a stored text as the UTF-8 of its characters ("Text encoding"), and where there are none.
-use Rattle.std.specs.Prelude.{◌≡◌, ℕ, ◌+◌, ◌*◌, ◌/◌, ◌%◌, ◌<◌, ◌==◌, true, if◌then◌else◌, List, [], ◌∷◌, ◌++◌, length, Option, Some, None, encode_utf8, encode_utf8_all}
+use Rattle.std.specs.Prelude.{◌≡◌, ℕ, ◌+◌, ◌*◌, ◌/◌, ◌%◌, ◌<◌, ◌==◌, nat_eq, Bool, true, false, if◌then◌else◌, List, [], ◌∷◌, ◌++◌, length, take, drop, Option, Some, None, encode_utf8, encode_utf8_all}
 use Rattle.std.specs.List.{flat_map}
+use Rattle.std.specs.Cmp.Lexicographic.{pointwise}
 use Rattle.std.specs.Option.{option_map}
 use Rattle.std.specs.Str.{all_scalars}
 use Rattle.std.specs.Char.Escape.{encode_utf16}
@@ -31,11 +32,22 @@ joined [] = Some []
 joined (None ∷ characters) = None
 joined (Some character ∷ characters) = option_map (λ rest. encode_utf8 character ++ rest) (joined characters)
 
+-- the bytes begin with others
+abbrev pub begins_with : List ℕ → List ℕ → Bool
+begins_with front bytes = pointwise nat_eq (take (length front) bytes) front
+
 -- a text decoded: itself under UTF-8; else the UTF-8 of the characters that its units spell, or None where its length
 -- is odd or a surrogate has no partner
 unfoldable pub decoded : Encoding → List ℕ → Option (List ℕ)
 decoded Utf8 bytes = Some bytes
 decoded encoding bytes = if length bytes % 2 == 1 then None else joined (utf16_chars (units_of encoding bytes))
+
+-- the bytes are the UTF-8 of the characters, none of which is missing
+abbrev pub is_spelled : List (Option ℕ) → List ℕ → Bool
+is_spelled [] bytes = length bytes == 0
+is_spelled (None ∷ characters) bytes = false
+is_spelled (Some character ∷ characters) bytes =
+    if begins_with (encode_utf8 character) bytes then is_spelled characters (drop (length (encode_utf8 character)) bytes) else false
 
 -- the two bytes of a unit
 abbrev pub unit_bytes : Encoding → ℕ → List ℕ

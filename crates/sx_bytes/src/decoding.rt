@@ -1,8 +1,8 @@
 //! The texts of a database, which may be stored in UTF-16, as UTF-8.
-ghost use Rattle.std.specs.Prelude.{◌≡◌, ◌↔◌, ℕ, List, Some, ◌+◌, ◌<◌, ◌∷◌, [], length, IfOk, IfSome, MatchOption};
+ghost use Rattle.std.specs.Prelude.{◌≡◌, ◌↔◌, ℕ, List, Some, ◌&&◌, ◌+◌, ◌<◌, ◌≤◌, ◌∷◌, [], false, Option, length, IsTrue, IfOk, IfSome, MatchOption};
 ghost use Rattle.sx_bytes.specs.declared.encoding.Encoding.{Encoding};
-ghost use Rattle.sx_bytes.specs.Decoding.{units_of, odd_byte, joined, decoded, IsBytes, Decodes};
-ghost use Rattle.std.specs.Char.Utf16.{utf16_chars};
+ghost use Rattle.sx_bytes.specs.Decoding.{units_of, odd_byte, joined, decoded, is_spelled, IsBytes, Decodes};
+ghost use Rattle.std.specs.Char.Utf16.{utf16_chars, lone_unit_char, surrogate_pair_char, is_high_surrogate, is_low_surrogate};
 
 use crate::encoding::Encoding;
 use std::alloc::{AllocError, Global};
@@ -74,6 +74,85 @@ pub fn split_first_unit(bytes: &[u8], encoding: Encoding) -> Option<(u16, &[u8])
     Some((unit, behind))
 }
 
+/// Whether a stored text decodes to this one, whose bytes are UTF-8 ("Text encoding").
+///
+/// No more characters are read than the word has and one. Takes no memory.
+#[tactic(auto, unfolding(crate::specs::Decoding::decoded), using(crate::proofs::Matching::spelled_joined))]
+pub fn decodes_to(bytes: &[u8], encoding: Encoding, word: &[u8]) -> bool
+    ensures { IsTrue result ↔ (decoded encoding bytes.now ≡ Some word.now) }
+{
+    if encoding == Encoding::Utf8 {
+        return bytes == word;
+    }
+    bytes.len() % 2 == 0 && units_spell(bytes, encoding, word)
+}
+
+/// Whether the units of a text in UTF-16 are the characters of this one in UTF-8.
+#[tactic(auto, using(crate::proofs::Matching::spelled_end))]
+fn units_spell(bytes: &[u8], encoding: Encoding, word: &[u8]) -> bool
+    ensures { result ≡ is_spelled (utf16_chars (units_of encoding bytes.now)) word.now }
+{
+    let mut rest = bytes;
+    let mut left = word;
+    while let Some((unit, behind)) = split_first_unit(rest, encoding) {
+        let (character, next) = first_character(unit, behind, encoding);
+        let Some(word_behind) = strip_character(character, left) else {
+            return false;
+        };
+        rest = next;
+        left = word_behind;
+    }
+    left.is_empty()
+}
+
+/// The character of the pair that begins with this unit, or else of the unit by itself, and the bytes behind it; no
+/// character where a surrogate has no partner.
+#[tactic(auto, using(crate::proofs::Matching::pair_first, crate::proofs::Matching::lone_last))]
+fn first_character<'a>(unit: u16, behind: &'a [u8], encoding: Encoding) -> (Option<char>, &'a [u8])
+    ensures first { utf16_chars (unit ∷ units_of encoding behind.now) ≡ result.0 ∷ utf16_chars (units_of encoding result.1.now) }
+    ensures shorter { length result.1.now ≤ length behind.now }
+{
+    let Some((second, rest)) = split_first_unit(behind, encoding) else {
+        return (lone_character(unit), behind);
+    };
+    if is_pair(unit, second) {
+        (Some(pair_character(unit, second)), rest)
+    } else {
+        (lone_character(unit), behind)
+    }
+}
+
+/// The character of a unit by itself, if it is no surrogate.
+fn lone_character(unit: u16) -> Option<char>
+    ensures { result ≡ lone_unit_char unit }
+{
+    char::from_u32(u32::from(unit))
+}
+
+/// The character of two units that are a pair of surrogates.
+pub fn pair_character(first: u16, second: u16) -> char
+    requires { IsTrue (is_high_surrogate first && is_low_surrogate second) }
+    ensures { result ≡ surrogate_pair_char first second }
+{
+    let over = (u32::from(first) - 0xd800) * 0x400 + (u32::from(second) - 0xdc00);
+    char::from_u32(0x1_0000 + over).unwrap()
+}
+
+/// Whether two units are a pair of surrogates: the first from D800 to DBFF and the second from DC00 to DFFF.
+pub fn is_pair(first: u16, second: u16) -> bool
+    ensures { result ≡ (is_high_surrogate first && is_low_surrogate second) }
+{
+    0xd800 <= first && first < 0xdc00 && 0xdc00 <= second && second < 0xe000
+}
+
+/// What is left of a text in UTF-8 behind this character, if it begins with it.
+fn strip_character(character: Option<char>, word: &[u8]) -> Option<&[u8]>
+    ensures { MatchOption result ((characters : List (Option ℕ)) → is_spelled (character ∷ characters) word.now ≡ false) (λ left. (characters : List (Option ℕ)) → is_spelled (character ∷ characters) word.now ≡ is_spelled characters left.now) }
+{
+    let mut buffer = [0; 4];
+    word.strip_prefix(character?.encode_utf8(&mut buffer).as_bytes())
+}
+
 /// Bytes decode to a text exactly where both are the same characters, in the two encodings. This is a law of the
 /// definitions; the function has no code.
 #[tactic(auto, using(crate::proofs::Spelling::decoded_both))]
@@ -132,6 +211,20 @@ mod tests {
             assert!(rt; is_decoded(alloc, high_first, Encoding::Utf16Be, Some(text))?);
         }
         Ok(())
+    }
+
+    #[test]
+    fn a_text_is_compared_as_it_is_stored(rt: HostRuntime) {
+        let (low, high) = (Encoding::Utf16Le, Encoding::Utf16Be);
+        assert!(rt; decodes_to(b"table", Encoding::Utf8, b"table"));
+        assert!(rt; decodes_to(b"t\0a\0", low, b"ta"));
+        assert!(rt; decodes_to(b"\xd8\x3d\xde\x00\0a", high, b"\xf0\x9f\x98\x80a"));
+        // in another encoding, a word that goes on, one that ends before, an odd length, a half alone
+        assert!(rt; !decodes_to(b"t\0a\0", high, b"ta"));
+        assert!(rt; !decodes_to(b"t\0a\0", low, b"tab"));
+        assert!(rt; !decodes_to(b"t\0a\0", low, b"t"));
+        assert!(rt; !decodes_to(b"t\0a", low, b"t"));
+        assert!(rt; !decodes_to(b"\xd8\x3d", high, b"\xed\xa0\xbd"));
     }
 
     #[test]

@@ -7,7 +7,9 @@ mod number;
 mod page_size;
 mod varints;
 
-pub use decoding::{decode, decoding_both_ways, split_first_unit};
+pub use decoding::{
+    decode, decodes_to, decoding_both_ways, is_pair, pair_character, split_first_unit,
+};
 pub use encoding::Encoding;
 pub use number::{be16, be24, be32, be48, be64};
 pub use page_size::{can_be_page_size, page_sizes_are_multiples};

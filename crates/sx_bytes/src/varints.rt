@@ -1,12 +1,28 @@
 //! Variable-length integers.
 ghost use Rattle.std.specs.Prelude.{◌≡◌, ◌↔◌, ℕ, ◌+◌, ◌^◌, ◌<◌, ◌≤◌, List, ◌++◌, length, Some, IsNone, IfSome};
+ghost use Rattle.sx_bytes.specs.Decoding.{IsBytes};
 ghost use Rattle.sx_bytes.specs.Varints.{IsVarint, BeginsWith, EndsInside, varint_at, shortest, short_at};
 
 /// The number at the front of `bytes`, and how many bytes it has there, from 1 to 9 ("B-tree Pages").
 ///
-/// None where the bytes end inside it. At most 9 bytes are read.
-#[tactic(auto, unfolding(crate::specs::Varints::varint_at))]
+/// None where the bytes end inside it. At most 9 bytes are read, and most numbers have one.
+#[inline]
+#[tactic(auto, using(crate::proofs::VarintLemmas::one_byte))]
 pub fn varint(bytes: &[u8]) -> Option<(u64, usize)>
+    ensures value { result ≡ varint_at bytes.now }
+    ensures some { IfSome result (λ found. 0 < found.1) }
+    ensures nine { IfSome result (λ found. found.1 ≤ 9) }
+    ensures within { IfSome result (λ found. found.1 ≤ length bytes.now) }
+{
+    match bytes {
+        [byte, ..] if *byte < 0x80 => Some((u64::from(*byte), 1)),
+        _ => longer_varint(bytes),
+    }
+}
+
+/// The same byte for byte.
+#[tactic(auto, unfolding(crate::specs::Varints::varint_at))]
+fn longer_varint(bytes: &[u8]) -> Option<(u64, usize)>
     ensures value { result ≡ varint_at bytes.now }
     ensures some { IfSome result (λ found. 0 < found.1) }
     ensures nine { IfSome result (λ found. found.1 ≤ 9) }
@@ -29,14 +45,29 @@ pub fn varint(bytes: &[u8]) -> Option<(u64, usize)>
 /// The number at the front of `bytes` in its shortest spelling, and how many bytes that has, from 1 to 9.
 ///
 /// None where the bytes end inside the number, and where a shorter spelling of it is possible.
-#[tactic(auto, unfolding(crate::specs::Varints::short_at))]
+#[inline]
+#[tactic(auto, using(crate::proofs::VarintLemmas::short_byte))]
 pub fn short_varint(bytes: &[u8]) -> Option<(u64, usize)>
     ensures value { result ≡ short_at bytes.now }
     ensures some { IfSome result (λ found. 0 < found.1) }
     ensures nine { IfSome result (λ found. found.1 ≤ 9) }
     ensures within { IfSome result (λ found. found.1 ≤ length bytes.now) }
 {
-    let (value, read) = varint(bytes)?;
+    match bytes {
+        [byte, ..] if *byte < 0x80 => Some((u64::from(*byte), 1)),
+        _ => longer_short_varint(bytes),
+    }
+}
+
+/// The same of a number of any length.
+#[tactic(auto, unfolding(crate::specs::Varints::short_at))]
+fn longer_short_varint(bytes: &[u8]) -> Option<(u64, usize)>
+    ensures value { result ≡ short_at bytes.now }
+    ensures some { IfSome result (λ found. 0 < found.1) }
+    ensures nine { IfSome result (λ found. found.1 ≤ 9) }
+    ensures within { IfSome result (λ found. found.1 ≤ length bytes.now) }
+{
+    let (value, read) = longer_varint(bytes)?;
     if read == varint_len(value) {
         Some((value, read))
     } else {
@@ -89,12 +120,12 @@ pub fn one_varint()
     ensures value { (a b x y : List ℕ) (v w : ℕ) → IsVarint a v → IsVarint b w → a ++ x ≡ b ++ y → v ≡ w }
 {}
 
-/// No spelling of a number has fewer bytes than `varint_len` says, and one has as many. This is a law of the
+/// No spelling of a number has fewer bytes than `varint_len` says, and one, of bytes, has as many. This is a law of the
 /// definitions; the function has no code.
 #[tactic(auto, using(crate::proofs::VarintLengths::none_shorter, crate::proofs::VarintLengths::one_as_short))]
 pub fn varint_len_is_least()
     ensures none { (text : List ℕ) (value : ℕ) → IsVarint text value → shortest value ≤ length text }
-    ensures one { (value : ℕ) → value < 2 ^ 64 → (text : List ℕ) × IsVarint text value × (length text ≡ shortest value) }
+    ensures one { (value : ℕ) → value < 2 ^ 64 → (text : List ℕ) × IsBytes text × IsVarint text value × (length text ≡ shortest value) }
 {}
 
 #[cfg(test)]

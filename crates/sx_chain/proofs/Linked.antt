@@ -1,12 +1,15 @@
 -- A list of linked numbers grows by one, and one chain of it is followed.
-use Rattle.std.proofs.Common.{◌≡◌, ℕ, ◌+◌, ◌<◌, ◌≤◌, ◌^◌, ◌==◌, Bool, cond, min, List, [], ◌∷◌, ◌++◌, Option, Some, None, length, take, get_or, slice_index, slice_index_or, count_by, nat_eq, refl, sym, ap, ◌∙◌, arith, inl, inr, eqb-true, eq-or-lt_of_le, length-append, length-take-le, take-take}
+use Rattle.std.proofs.Common.{◌≡◌, ℕ, ◌+◌, ◌<◌, ◌≤◌, ◌^◌, ◌==◌, Bool, true, false, cond, nat_le, IfSome, min, List, [], ◌∷◌, ◌++◌, Option, Some, None, length, take, get_or, slice_index, slice_index_or, count_by, nat_eq, refl, sym, ap, ◌∙◌, arith, inl, inr, eqb-true, eq-or-lt_of_le, length-append, length-take-le, take-take}
 use Rattle.std.proofs.Math.Seq.{get_or-append_seam}
-use Rattle.std.proofs.lemmas.List.{get_or-map, get_or_append_left, length-map, map-append, take_more}
+use Rattle.std.specs.Ordering.{nat_cmp, is_eq}
+use Rattle.std.proofs.lemmas.Bool.{leb-true}
+use Rattle.std.proofs.lemmas.Bool.Decides.{nat_tests}
+use Rattle.std.proofs.lemmas.List.{get_or_default, get_or-map, get_or_append_left, length-map, map-append, take_more}
 use Rattle.std.proofs.lemmas.List.Sums.{count_by_more_yes, sum_by-take-le}
 use Rattle.sx_chain.specs.declared.node.Node.{Node}
 use Rattle.sx_base.specs.Places.{last_place}
 use Rattle.sx_chain.specs.Newest.{has_number}
-use Rattle.sx_chain.specs.Links.{IsChained, numbers_of, links_of}
+use Rattle.sx_chain.specs.Links.{IsChained, IsFar, IsSkewed, followed, numbers_of, links_of, fars_of}
 use Rattle.sx_base.proofs.Places.{reach, reach_within, last_place-zero, last_place-more, last_place-same, last_place-cut, last_place_passes}
 
 -- a number more at the end leaves the places before it as they are
@@ -146,6 +149,56 @@ along_link numbers number before old now place next along past is =
       later = omega (arith, along.later);
     })
 
+-- an earlier item of the number that isn't below the bound is gone to
+pub along_far : (numbers : List ℕ) (number before old now place far : ℕ)
+    → IsAlong numbers number before old now (Some place) → before ≤ far → far < place → slice_index numbers far ≡ slice_index numbers place
+    → IsAlong numbers number before old (now + 1) (Some far)
+along_far numbers number before old now place far along past back same =
+    let test = has_number numbers number in
+    let here = last_place_passes test (place + 1) place (sym along.newest) in
+    let there : test far ≡ true = ap (λ n. nat_eq n number) same ∙ here.1 in
+    let one = count_by_more_yes (λ n. n == number) numbers place 0 (omega (arith, along.within)) here.1 in
+    let less = count_less numbers number (far + 1) place (omega arith) in
+    record {
+      newest = sym (last_place-more test far ∙ ap (λ b. cond b (Some far) (last_place test far)) there);
+      within = omega (arith, along.within);
+      none_between = along.none_between ∙ ap (last_place test) (omega arith);
+      counted = omega (arith, along.counted, one, less);
+      later = omega (arith, along.later);
+    }
+
+follow_case : (numbers : List ℕ) (number before old now place far : ℕ) (previous : Option ℕ) (goes : Bool)
+    → IsAlong numbers number before old now (Some place) → before ≤ place
+    → previous ≡ last_place (has_number numbers (slice_index numbers place)) place
+    → IsFar numbers (slice_index numbers place) previous place far → nat_le before far ≡ goes
+    → IsAlong numbers number before old (now + 1) (followed previous far before)
+follow_case numbers number before old now place far None goes along past is back goes_is = along_link numbers number before old now place None along past is
+follow_case numbers number before old now place far (Some next) true along past is back goes_is =
+    rw goes_is (along_far numbers number before old now place far along (leb-true before far goes_is) back.0 back.1)
+follow_case numbers number before old now place far (Some next) false along past is back goes_is =
+    rw goes_is (along_link numbers number before old now place (Some next) along past is)
+
+-- a link is followed, to either end
+pub along_follow : (numbers : List ℕ) (number before old now place far : ℕ) (previous : Option ℕ)
+    → IsAlong numbers number before old now (Some place) → before ≤ place
+    → previous ≡ last_place (has_number numbers (slice_index numbers place)) place
+    → IsFar numbers (slice_index numbers place) previous place far
+    → IsAlong numbers number before old (now + 1) (followed previous far before)
+along_follow numbers number before old now place far previous along past is back =
+    follow_case numbers number before old now place far previous (nat_le before far) along past is back refl
+
+falls_case : (numbers : List ℕ) (number place far before next : ℕ) (goes : Bool) → far < place → next < place → reach (Some (cond goes far next)) < place + 1
+falls_case numbers number place far before next true back less = omega arith
+falls_case numbers number place far before next false back less = omega arith
+
+-- and leads to an earlier place
+pub follow_falls : (numbers : List ℕ) (number place far before : ℕ) (previous : Option ℕ)
+    → previous ≡ last_place (has_number numbers number) place → IsFar numbers number previous place far
+    → reach (followed previous far before) < place + 1
+follow_falls numbers number place far before None is back = omega arith
+follow_falls numbers number place far before (Some next) is back =
+    falls_case numbers number place far before next (nat_le before far) back.0 (last_place_passes (has_number numbers number) place next (sym is)).0
+
 -- below the bound the place in hand is the answer
 pub along_found : (numbers : List ℕ) (number before old now place : ℕ)
     → IsAlong numbers number before old now (Some place) → place < before
@@ -163,31 +216,123 @@ along_end numbers number before old now along =
     ∙ ap (last_place (has_number numbers number)) none
     ∙ sym along.none_between
 
+-- ---- far ends
+
+far_kept : (numbers : List ℕ) (last number own far : ℕ) (previous : Option ℕ) → own ≤ length numbers
+    → IsFar numbers number previous own far → IsFar (numbers ++ last ∷ []) number previous own far
+far_kept numbers last number own far None within back = back
+far_kept numbers last number own far (Some before) within back =
+    (back.0, get_or_append_left numbers (last ∷ []) 0 far (omega (arith, back.0)) ∙ back.1)
+
+-- one far end more
+pub skewed_more : (numbers : List ℕ) (links : List (Option ℕ)) (fars : List ℕ) (number far : ℕ) (previous : Option ℕ)
+    → length links ≡ length numbers → length fars ≡ length numbers → IsSkewed numbers links fars
+    → IsFar numbers number previous (length numbers) far
+    → IsSkewed (numbers ++ number ∷ []) (links ++ previous ∷ []) (fars ++ far ∷ [])
+skewed_more numbers links fars number far previous long_links long_fars skewed back place within =
+    let long = length-append numbers (number ∷ []) in
+    let upto : place ≤ length numbers = omega (arith, long) in
+    elim (eq-or-lt_of_le upto) [
+      | inl last ↦
+          let at_links : place ≡ length links = omega (arith, long_links) in
+          let at_fars : place ≡ length fars = omega (arith, long_fars) in
+          let link : slice_index_or (links ++ previous ∷ []) place None ≡ previous = ap (λ k. get_or (links ++ previous ∷ []) k None) at_links ∙ get_or-append_seam links previous [] None in
+          let own : slice_index (fars ++ far ∷ []) place ≡ far = ap (λ k. get_or (fars ++ far ∷ []) k 0) at_fars ∙ get_or-append_seam fars far [] 0 in
+          let this : slice_index (numbers ++ number ∷ []) place ≡ number = ap (λ k. get_or (numbers ++ number ∷ []) k 0) last ∙ get_or-append_seam numbers number [] 0 in
+          rw (link, own, this, last) (far_kept numbers number number (length numbers) far previous (omega arith) back)
+      | inr below ↦
+          let link : slice_index_or (links ++ previous ∷ []) place None ≡ slice_index_or links place None = get_or_append_left links (previous ∷ []) None place (omega (arith, long_links)) in
+          let own : slice_index (fars ++ far ∷ []) place ≡ slice_index fars place = get_or_append_left fars (far ∷ []) 0 place (omega (arith, long_fars)) in
+          let this : slice_index (numbers ++ number ∷ []) place ≡ slice_index numbers place = get_or_append_left numbers (number ∷ []) 0 place below in
+          rw (link, own, this) (far_kept numbers number (slice_index numbers place) place (slice_index fars place) (slice_index_or links place None) (omega arith) (skewed place below))
+    ]
+
+-- the far end that a node holds
+pub far_read : (nodes : List Node) (place : ℕ) (node : Node) → IsSkewed (numbers_of nodes) (links_of nodes) (fars_of nodes)
+    → place < length (numbers_of nodes) → node ≡ get_or nodes place node
+    → IsFar (numbers_of nodes) (slice_index (numbers_of nodes) place) node.previous place node.far
+far_read nodes place node skewed within is =
+    let below : place < length nodes = omega (arith, length-map nodes (λ n. n.number)) in
+    let link : slice_index_or (links_of nodes) place None ≡ node.previous = get_or-map (λ n. n.previous) nodes place node None below ∙ ap (λ n. n.previous) (sym is) in
+    let far : slice_index (fars_of nodes) place ≡ node.far = get_or-map (λ n. n.far) nodes place node 0 below ∙ ap (λ n. n.far) (sym is) in
+    let known = skewed place within in
+    rw (link, far) at known
+
+back_case : (numbers : List ℕ) (number place far : ℕ) (previous : Option ℕ) → slice_index numbers place ≡ number → IsFar numbers number previous place far
+    → (far ≤ place) × (slice_index numbers far ≡ number)
+back_case numbers number place far None here back = (omega (arith, back), ap (slice_index numbers) back ∙ here)
+back_case numbers number place far (Some before) here back = (omega (arith, back.0), back.1)
+
+-- it is an item of the same number, and no later one
+pub far_back : (nodes : List Node) (place : ℕ) (node : Node) → IsSkewed (numbers_of nodes) (links_of nodes) (fars_of nodes)
+    → place < length (numbers_of nodes) → node ≡ get_or nodes place node
+    → (node.far ≤ place) × (slice_index (numbers_of nodes) node.far ≡ slice_index (numbers_of nodes) place)
+far_back nodes place node skewed within is =
+    back_case (numbers_of nodes) (slice_index (numbers_of nodes) place) place node.far node.previous refl (far_read nodes place node skewed within is)
+
+-- a node that isn't there
+abbrev pub no_node : Node
+no_node = record { number = 0; previous = None; far = 0; span = 0 }
+
+-- the same of a place that is read
+pub far_at : (nodes : List Node) (place : ℕ) (d : Node) → IsSkewed (numbers_of nodes) (links_of nodes) (fars_of nodes) → place < length nodes
+    → ((get_or nodes place d).far ≤ place) × (slice_index (numbers_of nodes) (get_or nodes place d).far ≡ slice_index (numbers_of nodes) place)
+far_at nodes place d skewed within =
+    far_back nodes place (get_or nodes place d) skewed (omega (arith, length-map nodes (λ n. n.number), within)) (get_or_default nodes place d (get_or nodes place d) within)
+
+-- and of the far item's own
+pub far_twice : (nodes : List Node) (place : ℕ) (d e : Node) → IsSkewed (numbers_of nodes) (links_of nodes) (fars_of nodes) → place < length nodes
+    → ((get_or nodes (get_or nodes place d).far e).far ≤ place) × (slice_index (numbers_of nodes) (get_or nodes (get_or nodes place d).far e).far ≡ slice_index (numbers_of nodes) place)
+far_twice nodes place d e skewed within =
+    let near = far_at nodes place d skewed within in
+    let further = far_at nodes (get_or nodes place d).far e skewed (omega (arith, near.0)) in
+    (omega (arith, near.0, further.0), further.1 ∙ near.1)
+
+-- the head of a number is an item of it
+pub head_there : (nodes : List Node) (head : ℕ → Option ℕ) (number : ℕ) (previous : Option ℕ) → IsChained (numbers_of nodes) (links_of nodes) head
+    → previous ≡ head number → IfSome previous (λ before. (before < length nodes) × (slice_index (numbers_of nodes) before ≡ number))
+head_there nodes head number None chained is = tt
+head_there nodes head number (Some before) chained is =
+    let here = last_place_passes (has_number (numbers_of nodes) number) (length (numbers_of nodes)) before (sym (is ∙ chained.heads number)) in
+    (omega (arith, here.0, length-map nodes (λ n. n.number)), eqb-true _ _ here.1)
+
+-- the two tests of equal keys
+pub same_key : (number asked : ℕ) → is_eq (nat_cmp number asked) ≡ nat_eq number asked
+same_key number asked = grind (arith, nat_tests)
+
 -- what the loop that links a list keeps: the first numbers are copied and chained
 pub record IsBuilt (all : List ℕ) (done : ℕ) (nodes : List Node) (head : ℕ → Option ℕ) : Type 0 where
   pub copied : numbers_of nodes ≡ take done all
   pub chained : IsChained (numbers_of nodes) (links_of nodes) head
+  pub skewed : IsSkewed (numbers_of nodes) (links_of nodes) (fars_of nodes)
 
 pub built_none : (all : List ℕ) (nodes : List Node) (head : ℕ → Option ℕ) → nodes ≡ []
     → ((asked : ℕ) → head asked ≡ None) → IsBuilt all 0 nodes head
-built_none all nodes head none empty = rw none (record { copied = refl; chained = chained_none head empty })
+built_none all nodes head none empty = rw none (record { copied = refl; chained = chained_none head empty; skewed = λ place within. absurd (omega arith) })
 
 pub built_more : (all : List ℕ) (done : ℕ) (nodes now : List Node) (node : Node) (old new : ℕ → Option ℕ)
     → length all < 2 ^ 32 → done < length all → IsBuilt all done nodes old
     → now ≡ nodes ++ node ∷ [] → node.number ≡ get_or all done 0 → node.previous ≡ old (get_or all done 0)
+    → IsFar (numbers_of nodes) (get_or all done 0) node.previous done node.far
     → ((asked : ℕ) → new asked ≡ cond (nat_eq (get_or all done 0) asked) (Some done) (old asked))
     → IsBuilt all (done + 1) now new
-built_more all done nodes now node old new few within built is number previous heads =
+built_more all done nodes now node old new few within built is number previous far heads =
     let long : length (numbers_of nodes) ≡ done = ap length built.copied ∙ length-take-le done all (omega arith) in
     let numbers : numbers_of now ≡ numbers_of nodes ++ get_or all done 0 ∷ []
     = ap numbers_of is ∙ map-append (λ n. n.number) nodes (node ∷ []) ∙ ap (λ n. numbers_of nodes ++ n ∷ []) number in
     let links : links_of now ≡ links_of nodes ++ node.previous ∷ []
     = ap links_of is ∙ map-append (λ n. n.previous) nodes (node ∷ []) in
+    let fars : fars_of now ≡ fars_of nodes ++ node.far ∷ []
+    = ap fars_of is ∙ map-append (λ n. n.far) nodes (node ∷ []) in
+    let long_fars : length (fars_of nodes) ≡ length (numbers_of nodes) = length-map nodes (λ n. n.far) ∙ sym (length-map nodes (λ n. n.number)) in
+    let far_now : IsFar (numbers_of nodes) (get_or all done 0) node.previous (length (numbers_of nodes)) node.far = rw long far in
     record {
       copied = numbers ∙ ap (λ front. front ++ get_or all done 0 ∷ []) built.copied ∙ sym (take_more all done 0 within);
       chained = rw (numbers, links) (chained_more (numbers_of nodes) (links_of nodes) old new (get_or all done 0) node.previous
           built.chained (omega arith) previous
           (λ asked. heads asked ∙ ap (λ k. cond (nat_eq (get_or all done 0) asked) (Some k) (old asked)) (sym long)));
+      skewed = rw (numbers, links, fars) (skewed_more (numbers_of nodes) (links_of nodes) (fars_of nodes) (get_or all done 0) node.far node.previous
+          built.chained.long long_fars built.skewed far_now);
     }
 
 -- the link that a node holds
@@ -198,6 +343,3 @@ link_read nodes place node head chained within is =
     ap (λ n. n.previous) is
     ∙ sym (get_or-map (λ n. n.previous) nodes place node None (omega (arith, length-map nodes (λ n. n.number))))
     ∙ chained.linked place within
-
-pub link_falls : (test : ℕ → Bool) (place : ℕ) (next : Option ℕ) → next ≡ last_place test place → reach next < place + 1
-link_falls test place next is = rw is (omega (arith, reach_within test place))

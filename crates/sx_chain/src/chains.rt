@@ -1,11 +1,12 @@
 //! Chains of equal numbers.
-ghost use Rattle.std.specs.Prelude.{◌≡◌, ℕ, ◌+◌, ◌^◌, ◌<◌, ◌≤◌, ◌==◌, List, length, min, count_by, IfOk};
+ghost use Rattle.std.specs.Prelude.{◌≡◌, ℕ, ◌+◌, ◌^◌, ◌<◌, ◌≤◌, ◌==◌, List, length, min, count_by, IfOk, IfSome, slice_index};
 ghost use Rattle.sx_base.specs.Places.{last_place};
 ghost use Rattle.sx_chain.specs.Newest.{has_number};
+ghost use Rattle.sx_chain.specs.Links.{numbers_of, links_of, fars_of, IsFar, IsSkewed};
 
 use crate::node::Node;
-use indexmap::IndexMap;
 use std::alloc::{AllocError, Global};
+use std::collections::BTreeMap;
 use std::marker::Model;
 use std::sync::ledger::Ledger;
 use sx_base::Steps;
@@ -17,19 +18,21 @@ use sx_base::Steps;
 #[derive(Drop)]
 pub struct Chains {
     nodes: Vec<Node>,
-    heads: IndexMap<u32, u32>,
+    heads: BTreeMap<u32, u32>,
 }
 
 impl Model for Chains {
-    ghost use Rattle.std.specs.Prelude.{ℕ, List, nat_eq};
-    ghost use Rattle.indexmap.specs.IndexMap.{get};
-    ghost use Rattle.sx_chain.specs.Links.{numbers_of, links_of, IsChained};
+    ghost use Rattle.std.specs.Prelude.{ℕ, List};
+    ghost use Rattle.std.specs.Ordering.{nat_cmp};
+    ghost use Rattle.std.specs.BTreeMap.{get};
+    ghost use Rattle.sx_chain.specs.Links.{numbers_of, links_of, fars_of, IsChained, IsSkewed};
 
     ghost Value = { List ℕ };
 
     ghost view = { λ chains. numbers_of chains.nodes.items };
 
-    ghost invariant = { λ chains. IsChained (numbers_of chains.nodes.items) (links_of chains.nodes.items) (get nat_eq chains.heads) };
+    ghost invariant = { λ chains. IsChained (numbers_of chains.nodes.items) (links_of chains.nodes.items) (get nat_cmp chains.heads)
+        × IsSkewed (numbers_of chains.nodes.items) (links_of chains.nodes.items) (fars_of chains.nodes.items) };
 }
 
 /// Links a list of fewer than 4,294,967,296 numbers.
@@ -41,12 +44,39 @@ pub fn build(alloc: Global, numbers: &[u32]) -> Result<Chains, AllocError>
     ensures { IfOk result (λ chains. chains ≡ numbers.now) }
 {
     let mut nodes = Vec::with_capacity(alloc, numbers.len())?;
-    let mut heads = IndexMap::new(alloc);
+    let mut heads = BTreeMap::new(alloc);
     for (i, number) in numbers.iter().enumerate() {
         let previous = heads.insert(*number, i as u32)?;
-        nodes.push(Node::new(*number, previous))?;
+        let node = linked(&nodes, *number, previous, i as u32);
+        nodes.push(node)?;
     }
     Ok(Chains { nodes, heads })
+}
+
+/// The item behind these, linked to the one before it with its number.
+fn linked(nodes: &[Node], number: u32, previous: Option<u32>, own: u32) -> Node
+    requires own { own ≡ length nodes.now }
+    requires before { IfSome previous (λ before. (before < length nodes.now) × (slice_index (numbers_of nodes.now) before ≡ number)) }
+    requires skewed { IsSkewed (numbers_of nodes.now) (links_of nodes.now) (fars_of nodes.now) }
+    ensures number { result.number ≡ number }
+    ensures previous { result.previous ≡ previous }
+    ensures far { IsFar (numbers_of nodes.now) number previous own result.far }
+{
+    let Some(before) = previous else {
+        return Node::new(number, None, own, 0);
+    };
+    let near = nodes[before as usize];
+    let further = nodes[near.far as usize];
+    if near.span == further.span {
+        Node::new(
+            number,
+            previous,
+            further.far,
+            near.span.wrapping_add(further.span).wrapping_add(1),
+        )
+    } else {
+        Node::new(number, previous, before, 1)
+    }
 }
 
 impl Chains {
@@ -65,7 +95,7 @@ impl Chains {
             if place < before {
                 return found;
             }
-            found = self.nodes[place as usize].follow(steps);
+            found = self.nodes[place as usize].follow(before, steps);
         }
         None
     }

@@ -1,8 +1,13 @@
 pub mod Characters
+pub mod Codes
 pub mod Columns
+pub mod Digits
+pub mod Fronts
 pub mod Layouts
 pub mod Places
 pub mod Printing
 pub mod Rows
+pub mod Spelled
+pub mod Standing
 pub mod Surveying
 pub mod Walking

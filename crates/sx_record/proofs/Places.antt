@@ -3,9 +3,10 @@ use Rattle.std.proofs.Common.{◌≡◌, ◌⊎◌, inl, inr, ℕ, zero, suc, �
 use Rattle.std.proofs.lemmas.Bool.Decides.{nat_tests}
 use Rattle.std.specs.List.{list_all, flat_map}
 use Rattle.sx_record.specs.Escape.{byte_text}
-use Rattle.sx_record.specs.Utf8.{is_within, sequence_of, is_continued, continued_len, sequence_len, character_len, utf8_behind, utf8_text}
+use Rattle.sx_record.specs.Utf8.{is_within, sequence_of, is_continued, continued_len, sequence_len, character_len, utf8_text}
 use Rattle.sx_record.specs.Places.{IsPart, IsPrinted}
 use Rattle.sx_record.specs.declared.utf8.Sequence.{Sequence}
+use Rattle.sx_record.proofs.Fronts.{character_there, byte_first, none_printed}
 use Rattle.sx_record.proofs.Rows.{IsRow, row_of}
 
 -- ---- a byte of a sequence behind its first is the first of none
@@ -117,31 +118,6 @@ pieces_behind zero (byte ∷ bytes) =
     if character_len (byte ∷ bytes) == 0 then byte_text byte ∷ pieces_behind 0 bytes
     else (byte ∷ []) ∷ pieces_behind (character_len (byte ∷ bytes) - 1) bytes
 
--- the pieces joined are the text
-pieces_joined : (pending : ℕ) (bytes : List ℕ) → utf8_behind pending bytes ≡ flat_map (λ piece. piece) (pieces_behind pending bytes)
-unfolding utf8_behind pieces_behind
-pieces_joined pending [] = refl
-pieces_joined (suc pending) (byte ∷ bytes) = ap (λ text. byte ∷ text) (pieces_joined pending bytes)
-pieces_joined zero (byte ∷ bytes) = joined_by (character_len (byte ∷ bytes) == 0) (character_len (byte ∷ bytes) - 1) byte bytes (pieces_joined 0 bytes) (pieces_joined (character_len (byte ∷ bytes) - 1) bytes)
-  where
-    joined_by : (single : Bool) (pending byte : ℕ) (bytes : List ℕ) → utf8_behind 0 bytes ≡ flat_map (λ piece. piece) (pieces_behind 0 bytes)
-        → utf8_behind pending bytes ≡ flat_map (λ piece. piece) (pieces_behind pending bytes)
-        → (if single then byte_text byte ++ utf8_behind 0 bytes else byte ∷ utf8_behind pending bytes)
-        ≡ flat_map (λ piece. piece) (if single then byte_text byte ∷ pieces_behind 0 bytes else (byte ∷ []) ∷ pieces_behind pending bytes)
-    joined_by true pending byte bytes here behind = ap (λ text. byte_text byte ++ text) here
-    joined_by false pending byte bytes here behind = ap (λ text. byte ∷ text) behind
-
-pieces_count : (pending : ℕ) (bytes : List ℕ) → length (pieces_behind pending bytes) ≡ length bytes
-unfolding pieces_behind
-pieces_count pending [] = refl
-pieces_count (suc pending) (byte ∷ bytes) = ap suc (pieces_count pending bytes)
-pieces_count zero (byte ∷ bytes) = counted_by (character_len (byte ∷ bytes) == 0) (character_len (byte ∷ bytes) - 1) byte bytes (pieces_count 0 bytes) (pieces_count (character_len (byte ∷ bytes) - 1) bytes)
-  where
-    counted_by : (single : Bool) (pending byte : ℕ) (bytes : List ℕ) → length (pieces_behind 0 bytes) ≡ length bytes → length (pieces_behind pending bytes) ≡ length bytes
-        → length (if single then byte_text byte ∷ pieces_behind 0 bytes else (byte ∷ []) ∷ pieces_behind pending bytes) ≡ suc (length bytes)
-    counted_by true pending byte bytes here behind = ap suc here
-    counted_by false pending byte bytes here behind = ap suc behind
-
 -- no character is at the front, and one is
 pieces_none : (byte : ℕ) (bytes : List ℕ) → character_len (byte ∷ bytes) ≡ 0 → pieces_behind 0 (byte ∷ bytes) ≡ byte_text byte ∷ pieces_behind 0 bytes
 unfolding pieces_behind
@@ -156,6 +132,33 @@ pieces_by byte pending len bytes is =
 pieces_some : (byte pending : ℕ) (bytes : List ℕ) → character_len (byte ∷ bytes) ≡ suc pending → pieces_behind 0 (byte ∷ bytes) ≡ (byte ∷ []) ∷ pieces_behind pending bytes
 unfolding pieces_behind
 pieces_some byte pending bytes is = pieces_by byte pending (character_len (byte ∷ bytes)) bytes is
+
+-- the pieces joined are the text
+pieces_joined : (bytes : List ℕ) (pending : ℕ) → take pending bytes ++ utf8_text (drop pending bytes) ≡ flat_map (λ piece. piece) (pieces_behind pending bytes)
+unfolding pieces_behind
+pieces_joined [] zero = none_printed
+pieces_joined [] (suc pending) = none_printed
+pieces_joined (byte ∷ bytes) (suc pending) = ap (λ text. byte ∷ text) (pieces_joined bytes pending)
+pieces_joined (byte ∷ bytes) zero = joined_by byte bytes (character_len (byte ∷ bytes)) refl (pieces_joined bytes)
+  where
+    joined_by : (byte : ℕ) (bytes : List ℕ) (len : ℕ) → character_len (byte ∷ bytes) ≡ len
+        → ((pending : ℕ) → take pending bytes ++ utf8_text (drop pending bytes) ≡ flat_map (λ piece. piece) (pieces_behind pending bytes))
+        → utf8_text (byte ∷ bytes) ≡ flat_map (λ piece. piece) (pieces_behind 0 (byte ∷ bytes))
+    joined_by byte bytes zero is behind = rw (byte_first byte bytes is, pieces_none byte bytes is) (ap (λ text. byte_text byte ++ text) (behind 0))
+    joined_by byte bytes (suc len) is behind =
+        let there : utf8_text (byte ∷ bytes) ≡ take (suc len) (byte ∷ bytes) ++ utf8_text (drop (suc len) (byte ∷ bytes)) = rw is at (character_there (byte ∷ bytes) (omega (arith, is))) in
+        rw (there, pieces_some byte len bytes is) (ap (λ text. byte ∷ text) (behind len))
+
+pieces_count : (pending : ℕ) (bytes : List ℕ) → length (pieces_behind pending bytes) ≡ length bytes
+unfolding pieces_behind
+pieces_count pending [] = refl
+pieces_count (suc pending) (byte ∷ bytes) = ap suc (pieces_count pending bytes)
+pieces_count zero (byte ∷ bytes) = counted_by (character_len (byte ∷ bytes) == 0) (character_len (byte ∷ bytes) - 1) byte bytes (pieces_count 0 bytes) (pieces_count (character_len (byte ∷ bytes) - 1) bytes)
+  where
+    counted_by : (single : Bool) (pending byte : ℕ) (bytes : List ℕ) → length (pieces_behind 0 bytes) ≡ length bytes → length (pieces_behind pending bytes) ≡ length bytes
+        → length (if single then byte_text byte ∷ pieces_behind 0 bytes else (byte ∷ []) ∷ pieces_behind pending bytes) ≡ suc (length bytes)
+    counted_by true pending byte bytes here behind = ap suc here
+    counted_by false pending byte bytes here behind = ap suc behind
 
 -- ---- each place
 
@@ -261,10 +264,9 @@ single_piece bytes place none (inr single) = single.get
 
 -- the text is made of a piece for each byte
 pub text_printed : (bytes : List ℕ) → IsPrinted bytes (utf8_text bytes)
-unfolding utf8_text
 text_printed bytes = record {
   pieces = pieces_behind 0 bytes;
-  joined = pieces_joined 0 bytes;
+  joined = pieces_joined bytes 0;
   count = pieces_count 0 bytes;
   part = λ place within part. part_piece bytes place part (each bytes 0 place tt within);
   single = λ place within none. single_piece bytes place none (each bytes 0 place tt within);

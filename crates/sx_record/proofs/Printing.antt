@@ -1,45 +1,16 @@
 -- The text of bytes in UTF-8, a character or a byte at a time.
-use Rattle.std.proofs.Common.{◌≡◌, ℕ, zero, suc, ◌+◌, ◌-◌, ◌<◌, ◌==◌, if◌then◌else◌, Bool, true, false, not, ◌&&◌, take_while, List, [], ◌∷◌, ◌++◌, length, take, drop, slice_index, refl, sym, ap, ◌∙◌, append_assoc, append-nil, arith, sub-one}
+use Rattle.std.proofs.Common.{◌≡◌, ℕ, zero, suc, ◌+◌, ◌-◌, ◌<◌, if◌then◌else◌, Bool, true, false, not, ◌&&◌, take_while, List, [], ◌∷◌, ◌++◌, length, take, drop, slice_index, refl, sym, ap, ◌∙◌, append_assoc, append-nil, arith}
 use Rattle.std.proofs.lemmas.List.{take_rest}
 use Rattle.std.proofs.lemmas.Bool.Decides.{nat_tests}
 use Rattle.std.specs.List.{prefix_len}
 use Rattle.std.proofs.lemmas.List.Folds.{length-prefix_len}
+use Rattle.sx_record.proofs.Fronts.{character_there, byte_first, none_printed}
 use Rattle.sx_record.proofs.Places.{none_behind}
 use Rattle.sx_bytes.specs.declared.encoding.Encoding.{Encoding}
 use Rattle.sx_bytes.specs.Decoding.{units_of, odd_byte}
 use Rattle.sx_record.specs.Utf16.{units_text, last_text, utf16_text}
 use Rattle.sx_record.specs.Escape.{is_plain, is_printable, is_marked, byte_text, escaped_byte}
-use Rattle.sx_record.specs.Utf8.{sequence_of, sequence_len, character_len, utf8_behind, utf8_text}
-
--- the pending bytes stand as they are
-pending_first : (pending : ℕ) (bytes : List ℕ) → utf8_behind pending bytes ≡ take pending bytes ++ utf8_behind 0 (drop pending bytes)
-unfolding utf8_behind
-pending_first zero bytes = refl
-pending_first (suc pending) [] = refl
-pending_first (suc pending) (byte ∷ bytes) = ap (λ text. byte ∷ text) (pending_first pending bytes)
-
-opened : (len byte : ℕ) (bytes : List ℕ) → 0 < len
-    → (if len == 0 then byte_text byte ++ utf8_behind 0 bytes else byte ∷ utf8_behind (len - 1) bytes)
-    ≡ take len (byte ∷ bytes) ++ utf8_behind 0 (drop len (byte ∷ bytes))
-opened zero byte bytes some = absurd (omega arith)
-opened (suc len) byte bytes some =
-    let apart : (suc len == 0) ≡ false = grind (arith, nat_tests) in
-    rw (apart, sub-one) (ap (λ text. byte ∷ text) (pending_first len bytes))
-
-none_in_nothing : character_len [] ≡ 0
-unfolding character_len sequence_len sequence_of
-none_in_nothing = refl
-
--- a character at the front
-character_there : (bytes : List ℕ) → 0 < character_len bytes → utf8_text bytes ≡ take (character_len bytes) bytes ++ utf8_text (drop (character_len bytes) bytes)
-unfolding utf8_text utf8_behind
-character_there [] some = absurd (omega (arith, none_in_nothing))
-character_there (byte ∷ bytes) some = opened (character_len (byte ∷ bytes)) byte bytes some
-
--- a byte at the front
-byte_first : (byte : ℕ) (bytes : List ℕ) → character_len (byte ∷ bytes) ≡ 0 → utf8_text (byte ∷ bytes) ≡ byte_text byte ++ utf8_text bytes
-unfolding utf8_text utf8_behind
-byte_first byte bytes none = rw none refl
+use Rattle.sx_record.specs.Utf8.{character_len, utf8_text}
 
 -- the same where there may be none
 first_by : (bytes : List ℕ) (len : ℕ) → character_len bytes ≡ len → utf8_text bytes ≡ take len bytes ++ utf8_text (drop len bytes)
@@ -65,8 +36,8 @@ plain_byte byte plain = plain_by byte (is_printable byte) (is_marked byte) plain
     plain_by byte true true plain = absurd (cc)
     plain_by byte false marked plain = absurd (cc)
 
-plain_below : (byte : ℕ) → is_plain byte ≡ true → byte < 0xc0
-plain_below byte plain = let printable : is_printable byte ≡ true = left_true (is_printable byte) (not (is_marked byte)) plain in grind (arith, nat_tests)
+pub plain_ascii : (byte : ℕ) → is_plain byte ≡ true → byte < 0x80
+plain_ascii byte plain = let printable : is_printable byte ≡ true = left_true (is_printable byte) (not (is_marked byte)) plain in grind (arith, nat_tests)
   where
     left_true : (a b : Bool) → (a && b) ≡ true → a ≡ true
     left_true true b both = refl
@@ -78,7 +49,7 @@ plain_step : (byte : ℕ) (bytes : List ℕ) (plain : Bool) (len : ℕ) → is_p
 plain_step byte bytes true len plain behind =
     let more : 1 + len ≡ suc len = omega arith in
     let first : utf8_text (byte ∷ bytes) ≡ (byte ∷ []) ++ utf8_text bytes
-    = byte_first byte bytes (none_behind byte bytes (plain_below byte plain)) ∙ ap (λ text. text ++ utf8_text bytes) (plain_byte byte plain) in
+    = byte_first byte bytes (none_behind byte bytes (let small = plain_ascii byte plain in omega arith)) ∙ ap (λ text. text ++ utf8_text bytes) (plain_byte byte plain) in
     rw more (first ∙ ap (λ text. byte ∷ text) behind)
 plain_step byte bytes false len plain behind = refl
 
@@ -99,8 +70,7 @@ byte_printed front text (byte ∷ bytes) some none appended =
 
 -- all was appended
 pub all_printed : (text bytes : List ℕ) → length bytes ≡ 0 → text ++ utf8_text bytes ≡ text
-unfolding utf8_text utf8_behind
-all_printed text [] none = append-nil text
+all_printed text [] none = rw none_printed (append-nil text)
 all_printed text (byte ∷ bytes) none = absurd (omega arith)
 
 -- all units were appended, and only a single last byte can be left

@@ -1,10 +1,13 @@
 pub mod Characters
+pub mod Codes
 pub mod Content
 pub mod Escape
 pub mod Layout
 pub mod Places
 pub mod Records
 pub mod SerialTypes
+pub mod Spelled
+pub mod Standing
 pub mod Surveys
 pub mod Text
 pub mod Utf16

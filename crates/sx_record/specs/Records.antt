@@ -9,20 +9,20 @@ use Rattle.sx_record.specs.declared.fault.RecordFault.{RecordFault}
 use Rattle.sx_record.specs.declared.fault.RecordFault.TheVariants.{HeaderSize, UnusedType, BodyLength}
 use Rattle.sx_record.specs.declared.survey.Survey.{Survey}
 
--- a type was found, and the types behind its other bytes follow it
+-- a type was found, and the types behind it follow it
 abbrev pub found_first : Option (ℕ × ℕ) → (ℕ → Option (List ℕ)) → Option (List ℕ)
 found_first None behind = None
-found_first (Some found) behind = option_map (λ types. found.0 ∷ types) (behind (found.1 - 1))
+found_first (Some found) behind = option_map (λ types. found.0 ∷ types) (behind found.1)
 
--- the types in bytes of which so many at the front belong to a type that began before them
-unfoldable pub types_behind : ℕ → List ℕ → Option (List ℕ)
-types_behind pending [] = Some []
-types_behind (suc pending) (byte ∷ bytes) = types_behind pending bytes
-types_behind zero (byte ∷ bytes) = found_first (varint_at (byte ∷ bytes)) (λ pending. types_behind pending bytes)
+-- the types in at most so many bytes: the one at the front, and those behind its spelling
+unfoldable pub types_within : ℕ → List ℕ → Option (List ℕ)
+types_within zero bytes = Some []
+types_within (suc most) [] = Some []
+types_within (suc most) (byte ∷ bytes) = found_first (varint_at (byte ∷ bytes)) (λ len. types_within most (drop len (byte ∷ bytes)))
 
 -- the types that stand one after the other; none where one of them doesn't end by the end of the bytes
 unfoldable pub types_in : List ℕ → Option (List ℕ)
-types_in bytes = types_behind 0 bytes
+types_in bytes = types_within (length bytes) bytes
 
 -- what the columns hold whose bodies stand one after the other
 unfoldable pub contents : List ℕ → List ℕ → List Content

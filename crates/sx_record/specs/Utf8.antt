@@ -40,14 +40,15 @@ sequence_len bytes = continued_len bytes (sequence_of (slice_index bytes 0))
 unfoldable pub character_len : List ℕ → ℕ
 character_len bytes = if slice_index bytes 0 == 0xc2 && is_within 0x80 0x9f (slice_index bytes 1) then 0 else sequence_len bytes
 
--- a text of which so many bytes at the front belong to a character that began before them
-unfoldable pub utf8_behind : ℕ → List ℕ → List ℕ
-utf8_behind pending [] = []
-utf8_behind (suc pending) (byte ∷ bytes) = byte ∷ utf8_behind pending bytes
-utf8_behind zero (byte ∷ bytes) =
-    if character_len (byte ∷ bytes) == 0 then byte_text byte ++ utf8_behind 0 bytes
-    else byte ∷ utf8_behind (character_len (byte ∷ bytes) - 1) bytes
+-- a text of at most so many bytes as it is printed: the character from U+00A0 up at its front stands as it is, or else
+-- its first byte is printed by itself; and then comes what is behind
+unfoldable pub utf8_within : ℕ → List ℕ → List ℕ
+utf8_within zero bytes = []
+utf8_within (suc most) [] = []
+utf8_within (suc most) (byte ∷ bytes) =
+    if character_len (byte ∷ bytes) == 0 then byte_text byte ++ utf8_within most bytes
+    else take (character_len (byte ∷ bytes)) (byte ∷ bytes) ++ utf8_within most (drop (character_len (byte ∷ bytes)) (byte ∷ bytes))
 
--- a text as it is printed: the bytes of a character from U+00A0 up stand as they are, and each other byte by itself
+-- a text as it is printed
 unfoldable pub utf8_text : List ℕ → List ℕ
-utf8_text bytes = utf8_behind 0 bytes
+utf8_text bytes = utf8_within (length bytes) bytes

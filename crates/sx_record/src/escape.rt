@@ -1,62 +1,59 @@
 //! Bytes and units of UTF-16 on their own in a printed text.
-ghost use Rattle.std.specs.Prelude.{◌≡◌, ◌++◌, OnOk, encode_utf8};
-ghost use Rattle.std.specs.Char.{IsScalar};
+ghost use Rattle.std.specs.Prelude.{◌≡◌, ◌++◌, ◌<◌, ◌∷◌, [], OnOk};
+ghost use Rattle.std.specs.String.{string_bytes};
 ghost use Rattle.sx_record.specs.Escape.{byte_text, escaped_byte, escaped_unit, unit_text};
 
+use crate::hexadecimal::put_hexadecimal;
 use std::alloc::AllocError;
 
 /// Appends a byte that is part of no character from U+00A0 up.
 #[tactic(auto, unfolding(crate::specs::Escape::byte_text))]
-pub fn push_byte(text: &mut Vec<u8>, byte: u8) -> Result<(), AllocError>
-    ensures { OnOk result (text.new.items ≡ text.old.items ++ byte_text byte) }
+pub fn put_byte(line: &mut String, byte: u8) -> Result<(), AllocError>
+    ensures { OnOk result (string_bytes line.new ≡ string_bytes line.old ++ byte_text byte) }
 {
     match byte {
-        b'\'' | b'\\' => text.extend_from_slice(&[b'\\', byte]),
-        b' '..=b'~' => text.extend_from_slice(&[byte]),
-        _ => push_escaped_byte(text, byte),
+        b'\'' | b'\\' => put_marked(line, byte),
+        b' '..=b'~' => line.push(char::from(byte)),
+        _ => put_escaped_byte(line, byte),
     }
 }
 
 /// Appends a unit that is no half of a pair.
 #[tactic(auto, unfolding(crate::specs::Escape::unit_text))]
-pub fn push_unit(text: &mut Vec<u8>, unit: u16) -> Result<(), AllocError>
-    ensures { OnOk result (text.new.items ≡ text.old.items ++ unit_text unit) }
+pub fn put_unit(line: &mut String, unit: u16) -> Result<(), AllocError>
+    ensures { OnOk result (string_bytes line.new ≡ string_bytes line.old ++ unit_text unit) }
 {
     match unit {
-        0x27 | 0x5c => text.extend_from_slice(&[b'\\', unit as u8]),
-        0x20..=0x7e => text.extend_from_slice(&[unit as u8]),
-        0..0xa0 | 0xd800..0xe000 => push_escaped_unit(text, unit),
-        _ => push_character(text, u32::from(unit)),
+        0x27 | 0x5c => put_marked(line, unit as u8),
+        0x20..=0x7e => line.push(char::from(unit as u8)),
+        0..0xa0 | 0xd800..0xe000 => put_escaped_unit(line, unit),
+        _ => line.push(char::from_u32(u32::from(unit)).unwrap()),
     }
+}
+
+/// Appends a character of one byte with a backslash before it.
+fn put_marked(line: &mut String, byte: u8) -> Result<(), AllocError>
+    requires { byte < 128 }
+    ensures { OnOk result (string_bytes line.new ≡ string_bytes line.old ++ 92 ∷ byte ∷ []) }
+{
+    line.push('\\')?;
+    line.push(char::from(byte))
 }
 
 /// Appends a byte as its two digits.
 #[tactic(auto, unfolding(crate::specs::Escape::escaped_byte))]
-pub fn push_escaped_byte(text: &mut Vec<u8>, byte: u8) -> Result<(), AllocError>
-    ensures { OnOk result (text.new.items ≡ text.old.items ++ escaped_byte byte) }
+pub fn put_escaped_byte(line: &mut String, byte: u8) -> Result<(), AllocError>
+    ensures { OnOk result (string_bytes line.new ≡ string_bytes line.old ++ escaped_byte byte) }
 {
-    let mut digits = [0; 2];
-    let _ = hex::encode_to_slice([byte], &mut digits);
-    text.extend_from_slice(&[b'\\', b'x', digits[0], digits[1]])
+    line.push_str("\\x")?;
+    put_hexadecimal(line, &[byte])
 }
 
 /// Appends a unit as its four digits.
 #[tactic(auto, unfolding(crate::specs::Escape::escaped_unit))]
-fn push_escaped_unit(text: &mut Vec<u8>, unit: u16) -> Result<(), AllocError>
-    ensures { OnOk result (text.new.items ≡ text.old.items ++ escaped_unit unit) }
+fn put_escaped_unit(line: &mut String, unit: u16) -> Result<(), AllocError>
+    ensures { OnOk result (string_bytes line.new ≡ string_bytes line.old ++ escaped_unit unit) }
 {
-    let mut digits = [0; 4];
-    let _ = hex::encode_to_slice(unit.to_be_bytes(), &mut digits);
-    text.extend_from_slice(b"\\u")?;
-    text.extend_from_slice(&digits)
-}
-
-/// Appends the UTF-8 of a character.
-pub fn push_character(text: &mut Vec<u8>, code: u32) -> Result<(), AllocError>
-    requires { IsScalar code }
-    ensures { OnOk result (text.new.items ≡ text.old.items ++ encode_utf8 code) }
-{
-    let mut buffer = [0; 4];
-    let character = char::from_u32(code).unwrap();
-    text.extend_from_slice(character.encode_utf8(&mut buffer).as_bytes())
+    line.push_str("\\u")?;
+    put_hexadecimal(line, &unit.to_be_bytes())
 }

@@ -4,9 +4,12 @@
 mod escape;
 mod fault;
 mod fields;
+mod hexadecimal;
+mod run;
 mod serial;
 mod survey;
 mod text;
+mod types;
 mod utf16;
 mod utf8;
 mod value;
@@ -15,8 +18,10 @@ mod values;
 pub use fault::RecordFault;
 pub use fields::{Fields, read_types, records_both_ways};
 pub use serial::{body_len, is_unused, value_in};
-pub use text::value_text;
+pub use text::{put_text, put_value, value_text};
+pub use types::{SerialTypes, serial_types, serial_types_both_ways};
 pub use utf8::{each_byte_is_printed_by_its_place, sequences_are_characters};
+pub use utf16::each_code_point_is_printed_by_itself;
 pub use value::Value;
 pub use values::Values;
 

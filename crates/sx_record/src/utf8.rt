@@ -3,10 +3,13 @@ ghost use Rattle.std.specs.Prelude.{◌≡◌, ◌↔◌, ℕ, List, ◌++◌, �
 ghost use Rattle.std.specs.List.{list_all};
 ghost use Rattle.sx_record.specs.Escape.{is_plain};
 ghost use Rattle.sx_record.specs.Characters.{BeginsWithCharacter};
+ghost use Rattle.std.specs.String.{string_bytes};
 ghost use Rattle.sx_record.specs.Places.{IsPrinted};
+ghost use Rattle.sx_record.specs.Standing.{Stands};
 ghost use Rattle.sx_record.specs.Utf8.{is_within, is_continued, sequence_of, sequence_len, character_len, utf8_text};
 
-use crate::escape::push_byte;
+use crate::escape::put_byte;
+use crate::run::put_run;
 use std::alloc::AllocError;
 
 /// A row of the table of well-formed sequences (The Unicode Standard, table 3-7).
@@ -22,38 +25,57 @@ pub struct Sequence {
 
 /// Appends a text.
 #[tactic(auto, using(crate::proofs::Printing::all_printed))]
-pub fn push_utf8(text: &mut Vec<u8>, bytes: &[u8]) -> Result<(), AllocError>
-    ensures { OnOk result (text.new.items ≡ text.old.items ++ utf8_text bytes.now) }
+pub fn put_utf8(line: &mut String, bytes: &[u8]) -> Result<(), AllocError>
+    ensures { OnOk result (string_bytes line.new ≡ string_bytes line.old ++ utf8_text bytes.now) }
 {
     let mut rest = bytes;
     while !rest.is_empty() {
-        rest = push_first(text, rest)?;
+        rest = put_first(line, rest)?;
     }
     Ok(())
 }
 
-/// Appends the bytes at the front that stand as they are, or else what stands for the first one, and answers the bytes
-/// behind.
+/// Appends the bytes at the front that stand as they are in one piece, or else what stands for the first one, and
+/// answers the bytes behind.
 #[tactic(auto, using(crate::proofs::Printing::standing_printed, crate::proofs::Printing::byte_printed))]
-fn push_first<'a>(text: &mut Vec<u8>, bytes: &'a [u8]) -> Result<&'a [u8], AllocError>
+fn put_first<'a>(line: &mut String, bytes: &'a [u8]) -> Result<&'a [u8], AllocError>
     requires { 0 < length bytes.now }
-    ensures same { IfOk result (λ rest. text.new.items ++ utf8_text rest.now ≡ text.old.items ++ utf8_text bytes.now) }
+    ensures same { IfOk result (λ rest. string_bytes line.new ++ utf8_text rest.now ≡ string_bytes line.old ++ utf8_text bytes.now) }
     ensures shorter { IfOk result (λ rest. length rest.now < length bytes.now) }
 {
     let len = standing_len(bytes);
     if len == 0 {
-        push_byte(text, bytes[0])?;
+        put_byte(line, bytes[0])?;
         return Ok(&bytes[1..]);
     }
     let (standing, rest) = bytes.split_at(len);
-    text.extend_from_slice(standing)?;
+    put_run(line, standing)?;
     Ok(rest)
 }
 
-/// How many bytes at the front stand as they are: as many plain ones as there are, or else those of a character.
-#[tactic(auto, using(crate::proofs::Printing::plain_first, crate::proofs::Printing::character_first))]
+/// How many bytes at the front stand as they are: plain ones and those of characters from U+00A0 up, as long as they
+/// follow one another.
+#[tactic(auto, using(crate::proofs::Standing::none_stands))]
 fn standing_len(bytes: &[u8]) -> usize
-    ensures stands { utf8_text bytes.now ≡ take result bytes.now ++ utf8_text (drop result bytes.now) }
+    ensures stands { Stands bytes.now result }
+    ensures within { result ≤ length bytes.now }
+    ensures none { result ≡ 0 → character_len bytes.now ≡ 0 }
+{
+    let mut len = 0;
+    let mut rest = bytes;
+    loop {
+        let more = first_standing_len(rest);
+        if more == 0 {
+            return len;
+        }
+        len += more;
+        rest = rest.split_at(more).1;
+    }
+}
+
+/// How many bytes at the front stand as they are: as many plain ones as there are, or else those of a character.
+fn first_standing_len(bytes: &[u8]) -> usize
+    ensures stands { Stands bytes.now result }
     ensures within { result ≤ length bytes.now }
     ensures none { result ≡ 0 → character_len bytes.now ≡ 0 }
 {

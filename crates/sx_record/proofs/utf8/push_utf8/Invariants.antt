@@ -1,9 +1,0 @@
-use Rattle.std.proofs.Common.{◌≡◌, ◌++◌, length}
-use Rattle.sx_record.specs.Utf8.{utf8_text}
-use Rattle.sx_record.proofs.utf8.push_utf8.Given as goal
-
-abbrev pub invariant-loop-rest : goal.invariant-loop-rest
-invariant-loop-rest l = l.text.items ++ utf8_text l.rest ≡ l.initial.text.items ++ utf8_text l.bytes
-
-abbrev pub decreases-loop-rest : goal.decreases-loop-rest
-decreases-loop-rest l = length l.rest
