@@ -1,26 +1,16 @@
-//! What a request names.
-ghost use Rattle.std.specs.Prelude.{◌≡◌, Some};
-ghost use Rattle.sx_words.specs.Words.{asked_by};
-ghost use Rattle.sx_app.specs.Answers.{db_of, part_asked};
+//! What a question names.
+ghost use Rattle.std.specs.Prelude.{◌≡◌};
+ghost use Rattle.sx_words.specs.Words.{question_by};
+ghost use Rattle.sx_app.specs.Answers.{part_named};
 
 use sx_base::Part;
-use sx_words::Request;
+use sx_words::Question;
 
-/// The name of the database.
-pub fn db_of<'w>(request: &Request<'w>) -> &'w str
-    ensures { result.now ≡ db_of (asked_by request.now) }
+/// The part of the evidence that a question names, the database where it names none.
+pub fn part_named(question: &Question) -> Part
+    ensures { result ≡ part_named (question_by question.now) }
 {
-    match request {
-        Request::Timeline { db } => db,
-        Request::Page { db, .. } => db,
-    }
-}
-
-/// The part of the evidence that a request names, the database where it names none.
-pub fn part_of(request: &Request<'_>) -> Part
-    ensures { result ≡ part_asked (Some (asked_by request.now)) }
-{
-    match request {
-        Request::Timeline { .. } | Request::Page { .. } => Part::Database,
+    match question {
+        Question::Timeline | Question::Page { .. } => Part::Database,
     }
 }
