@@ -9,7 +9,8 @@ use Rattle.sx_base.specs.declared.evidence.Part.{Part}
 use Rattle.sx_lines.specs.Lines.{text_of, AppendsSome}
 use Rattle.sx_words.specs.Words.{Asked, Question}
 use Rattle.sx_words.specs.Words as words
-use Rattle.sx_app.specs.Answers.{reply, reply_over, part_asked, part_named, answered, answer, Answers, Prints}
+use Rattle.sx_app.specs.Answers.{reply, part_asked, answered, answer, Answers, Prints}
+use Rattle.sx_app.specs.Commands.{part_named, reply_over}
 use Rattle.sx_app.specs.Evidence.{◌>>=◌, Evidence, evidence_of, case_of}
 use Rattle.sx_app.specs.Owed.{Fails, HasUsed, HasCauses, HasNumber, Ends, IsAnswered, IsExamined}
 use Rattle.sx_app.specs.Stages.{Reading, Deciding, Writing, MayMeet, MayOpen, MayFollow, MayAnswer, Has}

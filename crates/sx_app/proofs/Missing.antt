@@ -6,7 +6,7 @@ use Rattle.sx_base.specs.declared.moment.Moment.TheVariants.{Journal, File, Comm
 use Rattle.sx_moment.specs.Gathered.{Gathered, moments_of, is_moment}
 use Rattle.sx_timeline_text.proofs.Listed as listed
 use Rattle.sx_words.specs.declared.request.When.TheVariants.{At}
-use Rattle.sx_app.specs.Stages.{CanMiss}
+use Rattle.sx_app.specs.Moments.{CanMiss}
 
 -- a moment that isn't one of the case is the journal's, or a commit
 pub can_miss : (case : Gathered) (moment : Moment) → false ≡ is_moment case moment → CanMiss (At moment)

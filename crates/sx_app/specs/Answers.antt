@@ -5,29 +5,17 @@ use Rattle.sx_base.specs.Files.{Files}
 use Rattle.sx_base.specs.declared.evidence.Part.{Part}
 use Rattle.sx_base.specs.declared.evidence.Part.TheVariants as parts
 use Rattle.sx_lines.specs.Lines.{text_of, AppendsSome}
-use Rattle.sx_moment.specs.Gathered.{Gathered}
-use Rattle.sx_page_text.specs.Page.{page_lines}
-use Rattle.sx_timeline_text.specs.Timeline.{timeline_lines}
-use Rattle.sx_words.specs.Words.{Asked, Evidence, Question, Timeline, Page}
+use Rattle.sx_words.specs.Words.{Asked, Evidence}
+use Rattle.sx_app.specs.Commands.{part_named, reply_over}
 use Rattle.sx_app.specs.Evidence.{◌>>=◌, evidence_of, case_of}
-use Rattle.sx_app.specs.Moments.{moment_of}
 use Rattle.sx_app.specs.Refusals.{refusal_text}
 use Rattle.sx_app.specs.declared.refused.Refused.{Refused}
 use Rattle.sx_app.specs.declared.refused.Refused.TheVariants.{Usage, ReadFault, WriteFault, Memory}
-
--- the lines that a question asks for over a case, or why there are none: one case a command
-abbrev pub reply_over : Question → Gathered → Result (List (List ℕ)) Refused
-reply_over Timeline case = Ok (timeline_lines case)
-reply_over (Page number at) case = moment_of case at >>= λ moment. Ok (page_lines case moment number)
 
 -- the lines that the words ask for over these files, or why there are none
 abbrev pub reply : Option Asked → Files → Result (List (List ℕ)) Refused
 reply None files = Err Usage
 reply (Some (Evidence db question)) files = evidence_of files db >>= λ evidence. reply_over question (case_of evidence)
-
--- the part of the evidence that a question names, the database where it names none
-abbrev pub part_named : Question → Part
-part_named question = parts.Database
 
 -- the part of the evidence that the words name, the database where they name none
 abbrev pub part_asked : Option Asked → Part

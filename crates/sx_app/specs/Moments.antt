@@ -1,7 +1,8 @@
 -- The moment that the words ask for.
-use Rattle.std.specs.Prelude.{if◌then◌else◌, length, Option, None, Some, Result, Ok, Err}
+use Rattle.std.specs.Prelude.{if◌then◌else◌, length, Option, None, Some, Result, Ok, Err, ⊤}
 use Rattle.std.specs.List.{last_or}
 use Rattle.sx_base.specs.declared.moment.Moment.{Moment}
+use Rattle.sx_base.specs.declared.moment.Moment.TheVariants.{Journal, File, Commit}
 use Rattle.sx_moment.specs.Gathered.{Gathered, is_moment, moments_of}
 use Rattle.sx_words.specs.declared.request.When.{When}
 use Rattle.sx_words.specs.declared.request.When.TheVariants.{Last, At}
@@ -20,3 +21,15 @@ there case (Some moment) = Ok moment
 
 unfoldable pub moment_of : Gathered → When → Result Moment Refused
 moment_of case at = there case (moment_named case at)
+
+-- words that can ask for a moment that isn't there: the journal's, or a commit
+abbrev pub CanMiss : When → Type 0
+CanMiss Last = ⊥
+CanMiss (At Journal) = ⊤
+CanMiss (At File) = ⊥
+CanMiss (At (Commit k)) = ⊤
+
+-- what looking for a moment may meet
+abbrev pub MayMiss : When → Refused → Type 0
+MayMiss at (NoMoment commits) = CanMiss at
+MayMiss at refused = ⊥

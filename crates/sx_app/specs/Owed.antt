@@ -7,7 +7,8 @@ use Rattle.sx_edge.specs.declared.whole_file.TheConstants.{GREATEST_FILE}
 use Rattle.sx_lines.specs.declared.writing.Unwritten.{Unwritten}
 use Rattle.sx_lines.specs.declared.writing.Unwritten.TheVariants as unwritten
 use Rattle.sx_words.specs.Words.{Asked, Question}
-use Rattle.sx_app.specs.Answers.{Answers, answer, answered, storeless, part_asked, part_named, Prints}
+use Rattle.sx_app.specs.Answers.{Answers, answer, answered, storeless, part_asked, Prints}
+use Rattle.sx_app.specs.Commands.{part_named}
 use Rattle.sx_app.specs.Stages.{Has, MayAnswer, MayFollow}
 use Rattle.sx_app.specs.declared.refused.Refused.{Refused}
 use Rattle.sx_app.specs.declared.refused.Refused.TheVariants.{NoDatabase, TooLarge, NoMoment, Unreadable, NoByte, ReadFault, WriteFault, Memory}

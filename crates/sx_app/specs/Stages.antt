@@ -2,10 +2,8 @@
 use Rattle.std.specs.Prelude.{◌⊎◌, Option, None, Some, IsSome, IfSome, List, ℕ, ⊤}
 use Rattle.sx_base.specs.Files.{Files, file_named}
 use Rattle.sx_base.specs.declared.evidence.Part.TheVariants as parts
-use Rattle.sx_base.specs.declared.moment.Moment.TheVariants as moments
-use Rattle.sx_words.specs.Words.{Asked, Evidence, Question, Timeline, Page}
-use Rattle.sx_words.specs.declared.request.When.{When}
-use Rattle.sx_words.specs.declared.request.When.TheVariants as whens
+use Rattle.sx_words.specs.Words.{Asked, Evidence, Question}
+use Rattle.sx_app.specs.Commands.{MayMeetOver}
 use Rattle.sx_app.specs.declared.refused.Refused.{Refused}
 use Rattle.sx_app.specs.declared.refused.Refused.TheVariants.{Usage, NoDatabase, BadHeader, TooLarge, NoMoment, Unreadable, NoTable, NoTree, NoByte, ReadFault, WriteFault, Memory}
 
@@ -17,23 +15,6 @@ pub data Stage : Type 0 where
   Loading : Stage
   Deciding : (question : Question) → Stage
   Writing : Stage
-
--- words that can ask for a moment that isn't there: the journal's, or a commit
-abbrev pub CanMiss : When → Type 0
-CanMiss whens.Last = ⊥
-CanMiss (whens.At moments.Journal) = ⊤
-CanMiss (whens.At moments.File) = ⊥
-CanMiss (whens.At (moments.Commit k)) = ⊤
-
--- what looking for a moment may meet
-abbrev pub MayMiss : When → Refused → Type 0
-MayMiss at (NoMoment commits) = CanMiss at
-MayMiss at refused = ⊥
-
--- which moments, tables and bytes that aren't there a question may meet: one row a command
-abbrev pub MayMeetOver : Question → Refused → Type 0
-MayMeetOver Timeline refused = ⊥
-MayMeetOver (Page number at) refused = MayMiss at refused
 
 -- the table: which refusals a stage may meet
 abbrev pub MayMeet : Stage → Refused → Type 0

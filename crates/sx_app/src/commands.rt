@@ -2,7 +2,7 @@
 ghost use Rattle.std.specs.Prelude.{◌≡◌, IfErr};
 ghost use Rattle.sx_page_text.specs.Rest.{page_rest};
 ghost use Rattle.sx_words.specs.Words.{Page, question_by};
-ghost use Rattle.sx_app.specs.Answers.{reply_over};
+ghost use Rattle.sx_app.specs.Commands.{part_named, reply_over};
 ghost use Rattle.sx_app.specs.Owed.{Gives, IsAnswered};
 ghost use Rattle.sx_app.specs.Stages.{MayMeet, Deciding};
 
@@ -10,11 +10,21 @@ use crate::finish::finish;
 use crate::moments::snapshot_asked;
 use crate::refused::Refused;
 use std::alloc::Global;
+use sx_base::Part;
 use sx_edge::Sink;
 use sx_moment::Case;
 use sx_page_text::PageLines;
 use sx_timeline_text::TimelineLines;
 use sx_words::{Question, When};
+
+/// The part of the evidence that a question names, the database where it names none.
+pub fn part_named(question: &Question) -> Part
+    ensures { result ≡ part_named (question_by question.now) }
+{
+    match question {
+        Question::Timeline | Question::Page { .. } => Part::Database,
+    }
+}
 
 /// Answers a question over a case: one arm a command.
 pub fn answer_question<W: Sink>(

@@ -8,9 +8,9 @@ ghost use Rattle.sx_app.specs.Owed.{Gives, IsAnswered};
 ghost use Rattle.sx_app.specs.Stages.{MayMeet, Deciding, Writing};
 ghost use Rattle.sx_app.specs.declared.refused.Refused.{Refused};
 
+use crate::commands::part_named;
 use crate::refusals::refuse;
 use crate::refused::Refused;
-use crate::requested::part_named;
 use std::alloc::Global;
 use sx_edge::Sink;
 use sx_lines::{Lines, write_lines};

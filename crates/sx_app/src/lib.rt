@@ -10,7 +10,6 @@ mod loaded;
 mod moments;
 mod refusals;
 mod refused;
-mod requested;
 
 pub use examination::examine;
 pub use refused::{Refused, status};

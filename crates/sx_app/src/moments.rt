@@ -2,9 +2,8 @@
 ghost use Rattle.std.specs.Prelude.{◌≡◌, IfOk, IfErr};
 ghost use Rattle.std.specs.List.{last_or};
 ghost use Rattle.sx_moment.specs.Gathered.{moments_of};
-ghost use Rattle.sx_app.specs.Moments.{moment_of};
+ghost use Rattle.sx_app.specs.Moments.{moment_of, MayMiss};
 ghost use Rattle.sx_app.specs.Owed.{Gives};
-ghost use Rattle.sx_app.specs.Stages.{MayMiss};
 
 use crate::refused::Refused;
 use sx_moment::{Case, Snapshot};
