@@ -1,6 +1,3 @@
-pub mod Writing
 pub mod Numbers
+pub mod Missing
 pub mod Examined
-pub mod Counting
-pub mod MomentLines
-pub mod NodeCells

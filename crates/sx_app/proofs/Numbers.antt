@@ -2,7 +2,7 @@
 use Rattle.std.proofs.Common.{◌≡◌, ℕ, List, [], ◌∷◌, ◌++◌, Result, IfOk, String, string_bytes, sym, ◌∙◌, ap, append_assoc, append-nil}
 use Rattle.std.proofs.lemmas.Result.{IfOk-weaker}
 use Rattle.std.specs.declared.alloc.Global.{Global}
-use Rattle.sx_app.specs.Texts.{text_of}
+use Rattle.sx_lines.specs.Lines.{text_of}
 
 -- a front, digits and a back, with the line's end behind them
 pub numbered_line : (front digits back : List ℕ) → text_of ((front ++ (digits ++ back)) ∷ []) ≡ front ++ (digits ++ (back ++ 10 ∷ []))

@@ -1,9 +1,5 @@
 -- The evidence that the words name: a database, and the two files that may stand beside it.
-use Rattle.std.specs.Prelude.{◌≡◌, ℕ, ◌<◌, ◌≤◌, Bool, nat_lt, if◌then◌else◌, List, ◌++◌, length, codes, Option, None, Some, Result, Ok, Err, IsTrue, IsSome, IfSome, IsErrOf, ⊤}
-use Rattle.std.specs.Option.{option_map}
-use Rattle.std.specs.declared.alloc.Global.{Global}
-use Rattle.std.specs.declared.vec.Vec.{Vec}
-use Rattle.sx_base.specs.Causes.{Rose}
+use Rattle.std.specs.Prelude.{ℕ, nat_lt, if◌then◌else◌, List, ◌++◌, length, codes, Option, None, Some, Result, Ok, Err}
 use Rattle.sx_base.specs.Files.{Files, file_named}
 use Rattle.sx_base.specs.declared.evidence.Part.{Part}
 use Rattle.sx_base.specs.declared.evidence.Part.TheVariants.{Database, Wal, Journal}
@@ -12,11 +8,8 @@ use Rattle.sx_header.specs.Header.{header_of}
 use Rattle.sx_header.specs.declared.header.Header.{Header}
 use Rattle.sx_header.specs.declared.header.HeaderFault.{HeaderFault}
 use Rattle.sx_moment.specs.Gathered.{Gathered, gathered}
-use Rattle.sx_app.specs.declared.database.Database.{Database as LoadedDatabase}
-use Rattle.sx_app.specs.declared.loaded.Companions.{Companions as LoadedCompanions}
-use Rattle.sx_app.specs.declared.loaded.Loaded.{Loaded}
 use Rattle.sx_app.specs.declared.refused.Refused.{Refused}
-use Rattle.sx_app.specs.declared.refused.Refused.TheVariants.{NoDatabase, BadHeader, TooLarge, ReadFault, Memory}
+use Rattle.sx_app.specs.declared.refused.Refused.TheVariants.{NoDatabase, BadHeader, TooLarge}
 
 -- one step, and the next where it didn't refuse
 infixl 10 ◌>>=◌
@@ -87,73 +80,3 @@ evidence_of files db =
 -- the evidence with its moments
 abbrev pub case_of : Evidence → Gathered
 case_of evidence = gathered evidence.database.header evidence.database.bytes evidence.wal evidence.journal
-
--- a function's answer, seen by view, is what the definition gives, unless the store failed or memory ran out
-abbrev pub Fails : {Y : Type 0} → Refused → Result Y Refused → Type 0
-Fails ReadFault given = ⊤
-Fails Memory given = ⊤
-Fails refused given = given ≡ Err refused
-
-abbrev pub Gives : {X Y : Type 0} → (X → Y) → Result X Refused → Result Y Refused → Type 0
-Gives view (Ok x) given = given ≡ Ok (view x)
-Gives view (Err refused) given = Fails refused given
-
--- why the evidence of a store was refused, also where the store tells nothing
-pub record HasCauses {T : Type 0} (before now : ℕ) (absent : Bool) (given : ℕ) (result : Result T Refused) : Type 0 where
-  -- the count of the store's faults didn't fall, and after a read fault it rose
-  pub later : before ≤ now
-  pub read_fault : IsErrOf result ReadFault → Rose before now
-  -- the last start answered that there is no such file
-  pub no_database : IsErrOf result NoDatabase → IsTrue absent
-  -- more bytes than the limit were given since the last start
-  pub too_large : (part : Part) → IsErrOf result (TooLarge part) → GREATEST_FILE < given
-
--- the files, where they are told, have the name
-abbrev pub Has : Option Files → List ℕ → Type 0
-Has contents db = IfSome contents (λ files. IsSome (file_named files db))
-
--- they have it where something came of it, or memory ran out
-abbrev pub HasUsed : {T : Type 0} → Option Files → List ℕ → Result T Refused → Type 0
-HasUsed contents db (Ok x) = Has contents db
-HasUsed contents db (Err Memory) = Has contents db
-HasUsed contents db (Err refused) = ⊤
-
--- what can keep evidence from being opened
-abbrev pub MayMeet : Refused → Type 0
-MayMeet NoDatabase = ⊤
-MayMeet (BadHeader fault) = ⊤
-MayMeet (TooLarge part) = ⊤
-MayMeet ReadFault = ⊤
-MayMeet Memory = ⊤
-MayMeet refused = ⊥
-
--- what a companion can meet
-abbrev pub MayMeetBeside : Refused → Type 0
-MayMeetBeside (TooLarge part) = ⊤
-MayMeetBeside ReadFault = ⊤
-MayMeetBeside Memory = ⊤
-MayMeetBeside refused = ⊥
-
--- a database as it was loaded, without where it lies in memory
-abbrev pub opened_by : LoadedDatabase → Opened
-opened_by database = record { header = database.header; bytes = database.bytes.items }
-
--- the bytes of a file as it was loaded, where there is one
-abbrev pub bytes_by : Option (Vec ℕ Global) → Option (List ℕ)
-bytes_by file = option_map (λ bytes. bytes.items) file
-
--- the files beside a database as they were loaded
-abbrev pub companions_by : LoadedCompanions → Companions
-companions_by beside = record { wal = bytes_by beside.wal; journal = bytes_by beside.journal }
-
--- the evidence as it was loaded
-abbrev pub evidence_by : Loaded → Evidence
-evidence_by loaded = record {
-  database = opened_by loaded.database;
-  wal = bytes_by loaded.beside.wal;
-  journal = bytes_by loaded.beside.journal;
-}
-
--- a file that was loaded has at most so many bytes
-abbrev pub IsWithin : Option (Vec ℕ Global) → Type 0
-IsWithin file = IfSome file (λ bytes. length bytes.items ≤ GREATEST_FILE)

@@ -1,10 +1,8 @@
-pub mod Texts
-pub mod Refusals
 pub mod Evidence
-pub mod Timeline
-pub mod NodeText
-pub mod NodeRest
-pub mod Page
 pub mod Moments
+pub mod Refusals
+pub mod Commands
 pub mod Answers
-pub mod Prepared
+pub mod Stages
+pub mod Loaded
+pub mod Owed

@@ -29,7 +29,7 @@ CanMiss (At Journal) = ⊤
 CanMiss (At File) = ⊥
 CanMiss (At (Commit k)) = ⊤
 
--- what looking for a moment can meet
+-- what looking for a moment may meet
 abbrev pub MayMiss : When → Refused → Type 0
 MayMiss at (NoMoment commits) = CanMiss at
 MayMiss at refused = ⊥

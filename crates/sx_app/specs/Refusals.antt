@@ -6,7 +6,8 @@ use Rattle.sx_header.specs.declared.header.HeaderFault.{HeaderFault}
 use Rattle.sx_header.specs.declared.header.HeaderFault.TheVariants as faults
 use Rattle.sx_app.specs.declared.refused.Refused.{Refused}
 use Rattle.sx_app.specs.declared.refused.Refused.TheVariants.{Usage, NoDatabase, BadHeader, TooLarge, NoMoment, Unreadable, NoTable, NoByte, ReadFault, WriteFault, Memory, NoTree}
-use Rattle.sx_app.specs.Texts.{text_of, part_name, moment_word}
+use Rattle.sx_lines.specs.Lines.{text_of}
+use Rattle.sx_lines.specs.Names.{part_name, moment_word}
 
 -- the name of a header's fault
 abbrev pub fault_name : HeaderFault → List ℕ

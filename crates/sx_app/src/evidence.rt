@@ -2,7 +2,10 @@
 ghost use Rattle.std.specs.Prelude.{◌≡◌, ◌≤◌, ◌++◌, length, IfOk, IfErr, IfSome};
 ghost use Rattle.sx_base.specs.Files.{file_named};
 ghost use Rattle.sx_edge.specs.declared.whole_file.TheConstants.{GREATEST_FILE};
-ghost use Rattle.sx_app.specs.Evidence.{database_in, database_of, companion_in, companions_of, evidence_of, opened_by, bytes_by, companions_by, evidence_by, case_of, Gives, HasCauses, HasUsed, IsWithin, MayMeet, MayMeetBeside};
+ghost use Rattle.sx_app.specs.Evidence.{database_in, database_of, companion_in, companions_of, evidence_of, case_of};
+ghost use Rattle.sx_app.specs.Loaded.{opened_by, bytes_by, companions_by, evidence_by, IsWithin};
+ghost use Rattle.sx_app.specs.Owed.{Gives, HasCauses, HasUsed};
+ghost use Rattle.sx_app.specs.Stages.{MayMeet, Opening, Loading, MayOpen};
 
 use crate::database::Database;
 use crate::loaded::{Companions, Loaded};
@@ -20,9 +23,10 @@ use sx_moment::{Case, Evidence};
 /// out at each step.
 #[tactic(auto, unfolding(crate::specs::Evidence::evidence_of))]
 pub fn open_evidence<S: Store>(alloc: Global, store: &mut S, db: &str) -> Result<Loaded, Refused>
+    ensures contents { S.contents store.new ≡ S.contents store.old }
     ensures told { IfSome (S.contents store.old) (λ files. Gives evidence_by result (evidence_of files db.now)) }
     ensures causes { HasCauses (S.faults store.old) (S.faults store.new) (S.absent store.new) (S.given store.new) result }
-    ensures may { IfErr result MayMeet }
+    ensures may { IfErr result MayOpen }
     ensures used { HasUsed (S.contents store.old) db.now result }
 {
     let database = open_database(alloc, store, db)?;
@@ -36,7 +40,7 @@ fn open_database<S: Store>(alloc: Global, store: &mut S, db: &str) -> Result<Dat
     ensures contents { S.contents store.new ≡ S.contents store.old }
     ensures told { IfSome (S.contents store.old) (λ files. Gives opened_by result (database_of files db.now)) }
     ensures causes { HasCauses (S.faults store.old) (S.faults store.new) (S.absent store.new) (S.given store.new) result }
-    ensures may { IfErr result MayMeet }
+    ensures may { IfErr result (MayMeet Opening) }
     ensures used { HasUsed (S.contents store.old) db.now result }
 {
     let bytes = load_database(alloc, store, db)?;
@@ -53,7 +57,7 @@ fn load_database<S: Store>(alloc: Global, store: &mut S, db: &str) -> Result<Vec
     ensures told { IfSome (S.contents store.old) (λ files. Gives (λ bytes. bytes.items) result (database_in (file_named files db.now))) }
     ensures small { IfOk result (λ bytes. length bytes.items ≤ GREATEST_FILE) }
     ensures causes { HasCauses (S.faults store.old) (S.faults store.new) (S.absent store.new) (S.given store.new) result }
-    ensures may { IfErr result MayMeet }
+    ensures may { IfErr result (MayMeet Opening) }
     ensures used { HasUsed (S.contents store.old) db.now result }
 {
     match load(alloc, store, db) {
@@ -68,9 +72,10 @@ fn load_database<S: Store>(alloc: Global, store: &mut S, db: &str) -> Result<Vec
 // The files beside the database, each read whole where it is there.
 #[tactic(auto, unfolding(crate::specs::Evidence::companions_of))]
 fn load_companions<S: Store>(alloc: Global, store: &mut S, db: &str) -> Result<Companions, Refused>
+    ensures contents { S.contents store.new ≡ S.contents store.old }
     ensures told { IfSome (S.contents store.old) (λ files. Gives companions_by result (companions_of files db.now)) }
     ensures causes { HasCauses (S.faults store.old) (S.faults store.new) (S.absent store.new) (S.given store.new) result }
-    ensures may { IfErr result MayMeetBeside }
+    ensures may { IfErr result (MayMeet Loading) }
 {
     let wal = load_companion(alloc, store, db, Part::Wal, "-wal")?;
     let journal = load_companion(alloc, store, db, Part::Journal, "-journal")?;
@@ -78,7 +83,7 @@ fn load_companions<S: Store>(alloc: Global, store: &mut S, db: &str) -> Result<C
 }
 
 // The bytes of the file of the database's name with `ending` behind it, where there is one. It is that part of the
-// evidence.
+// evidence, one that lies beside the database.
 #[tactic(auto, unfolding(crate::specs::Evidence::companion_in))]
 fn load_companion<S: Store>(
     alloc: Global,
@@ -87,12 +92,13 @@ fn load_companion<S: Store>(
     part: Part,
     ending: &str,
 ) -> Result<Option<Vec<u8>>, Refused>
+    requires { MayMeet Loading (Refused.TooLarge part) }
     ensures contents { S.contents store.new ≡ S.contents store.old }
     ensures told { IfSome (S.contents store.old) (λ files.
         Gives bytes_by result (companion_in part (file_named files (db.now ++ ending.now)))) }
     ensures within { IfOk result IsWithin }
     ensures causes { HasCauses (S.faults store.old) (S.faults store.new) (S.absent store.new) (S.given store.new) result }
-    ensures may { IfErr result MayMeetBeside }
+    ensures may { IfErr result (MayMeet Loading) }
 {
     let name = format!(in alloc; "{db}{ending}")?;
     match load(alloc, store, name.as_str()) {

@@ -1,22 +1,25 @@
 //! The top call.
-ghost use Rattle.std.specs.Prelude.{◌≡◌, ◌<◌, Some, Err, IfErr, IfSome, IsErrOf, IsTrue};
+ghost use Rattle.std.specs.Prelude.{◌≡◌, ◌<◌, ◌≤◌, Some, Err, IfErr, IfSome, IsErrOf, IsTrue};
 ghost use Rattle.sx_base.specs.Causes.{Rose};
 ghost use Rattle.sx_base.specs.declared.evidence.Part.{Part};
 ghost use Rattle.sx_edge.specs.declared.whole_file.TheConstants.{GREATEST_FILE};
-ghost use Rattle.sx_words.specs.Words.{texts, request_of, asked_by};
-ghost use Rattle.sx_app.specs.Answers.{Answers, answer, storeless, part_asked, reply_over, MayAnswer, Prints, IsAnswered, IsExamined};
-ghost use Rattle.sx_app.specs.Evidence.{case_of, evidence_by};
+ghost use Rattle.sx_words.specs.Words.{texts, request_of, asked_by, question_by, Evidence};
+ghost use Rattle.sx_app.specs.Answers.{Answers, answer, storeless, part_asked, Prints};
+ghost use Rattle.sx_app.specs.Commands.{reply_over};
+ghost use Rattle.sx_app.specs.Evidence.{case_of};
+ghost use Rattle.sx_app.specs.Loaded.{evidence_by};
+ghost use Rattle.sx_app.specs.Owed.{IsAnswered, IsExamined};
+ghost use Rattle.sx_app.specs.Stages.{MayAnswer};
 
-use crate::evidence::open_evidence;
+use crate::commands::{answer_question, part_named};
+use crate::evidence::{gather, open_evidence};
 use crate::loaded::Loaded;
-use crate::prepared::{prepare, write};
 use crate::refusals::refuse;
 use crate::refused::Refused;
-use crate::requested::{db_of, part_of};
 use std::alloc::Global;
 use sx_base::Part;
 use sx_edge::{Sink, Store};
-use sx_words::{Request, read_words};
+use sx_words::{Question, Request, read_words};
 
 /// Examines the evidence that the words name, and writes the answer.
 ///
@@ -44,6 +47,8 @@ pub fn examine<S: Store, W: Sink>(
     ensures too_large { (part : Part) → IsErrOf result (Refused.TooLarge part) → GREATEST_FILE < S.given store.new }
     ensures read_fault { IsErrOf result Refused.ReadFault → Rose (S.faults store.old) (S.faults store.new) }
     ensures write_fault { IsErrOf result Refused.WriteFault → Rose (W.faults out.old) (W.faults out.new) }
+    ensures contents { S.contents store.new ≡ S.contents store.old }
+    ensures later { (S.faults store.old ≤ S.faults store.new) × (W.faults out.old ≤ W.faults out.new) }
 {
     match read_words(words) {
         Ok(request) => carry_out(alloc, &request, store, out),
@@ -58,27 +63,43 @@ fn carry_out<S: Store, W: Sink>(
     store: &mut S,
     out: &mut W,
 ) -> Result<(), Refused>
-    ensures { IsExamined (Some (asked_by request.now)) (S.contents store.old) (S.faults store.old) (S.faults store.new)
+    ensures contents { S.contents store.new ≡ S.contents store.old }
+    ensures examined { IsExamined (Some (asked_by request.now)) (S.contents store.old) (S.faults store.old) (S.faults store.new)
         (S.absent store.new) (S.given store.new) (W.taken out.old) (W.taken out.new) (W.faults out.old) (W.faults out.new) result }
 {
-    match open_evidence(alloc, store, db_of(request)) {
-        Ok(loaded) => answer_over(alloc, request, &loaded, out),
-        Err(refused) => Err(refuse(alloc, part_of(request), refused, out)),
+    match request {
+        Request::Evidence { db, question } => examine_evidence(alloc, db, question, store, out),
     }
 }
 
-// What a request asks for, over evidence that was opened.
+// What a question about the evidence of a database's name asks for.
+fn examine_evidence<S: Store, W: Sink>(
+    alloc: Global,
+    db: &str,
+    question: &Question,
+    store: &mut S,
+    out: &mut W,
+) -> Result<(), Refused>
+    ensures contents { S.contents store.new ≡ S.contents store.old }
+    ensures examined { IsExamined (Some (Evidence db.now (question_by question.now))) (S.contents store.old) (S.faults store.old) (S.faults store.new)
+        (S.absent store.new) (S.given store.new) (W.taken out.old) (W.taken out.new) (W.faults out.old) (W.faults out.new) result }
+{
+    match open_evidence(alloc, store, db) {
+        Ok(loaded) => answer_over(alloc, question, &loaded, out),
+        Err(refused) => Err(refuse(alloc, part_named(question), refused, out)),
+    }
+}
+
+// What a question asks for, over evidence that was opened.
 fn answer_over<W: Sink>(
     alloc: Global,
-    request: &Request<'_>,
+    question: &Question,
     loaded: &Loaded,
     out: &mut W,
 ) -> Result<(), Refused>
-    ensures { IsAnswered (asked_by request.now) (reply_over (asked_by request.now) (case_of (evidence_by loaded.now)))
+    ensures { IsAnswered (question_by question.now) (reply_over (question_by question.now) (case_of (evidence_by loaded.now)))
         (W.taken out.old) (W.taken out.new) (W.faults out.old) (W.faults out.new) result }
 {
-    match prepare(alloc, request, loaded) {
-        Ok(prepared) => write(alloc, prepared, out),
-        Err(refused) => Err(refuse(alloc, part_of(request), refused, out)),
-    }
+    let case = gather(alloc, loaded)?;
+    answer_question(alloc, question, &case, out)
 }

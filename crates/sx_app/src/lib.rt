@@ -1,23 +1,15 @@
 //! The examiner's top call: from the words and the files of a store to the text that a sink takes.
 #![tactic(auto)]
 
+mod commands;
 mod database;
 mod evidence;
 mod examination;
-mod lines;
+mod finish;
 mod loaded;
 mod moments;
-mod node_lines;
-mod node_text;
-mod page;
-mod page_body;
-mod prepared;
 mod refusals;
 mod refused;
-mod requested;
-mod tally;
-mod texts;
-mod timeline;
 
 pub use examination::examine;
 pub use refused::{Refused, status};

@@ -26,7 +26,7 @@ pub struct Companions {
 }
 
 impl Companions {
-    ghost use Rattle.sx_app.specs.Evidence.{bytes_by};
+    ghost use Rattle.sx_app.specs.Loaded.{bytes_by};
 
     /// The bytes of the write-ahead log, where there is one.
     pub fn wal_bytes(&self) -> Option<&[u8]>

@@ -2,8 +2,8 @@
 ghost use Rattle.std.specs.Prelude.{◌≡◌, IfOk, IfErr};
 ghost use Rattle.std.specs.List.{last_or};
 ghost use Rattle.sx_moment.specs.Gathered.{moments_of};
-ghost use Rattle.sx_app.specs.Evidence.{Gives};
 ghost use Rattle.sx_app.specs.Moments.{moment_of, MayMiss};
+ghost use Rattle.sx_app.specs.Owed.{Gives};
 
 use crate::refused::Refused;
 use sx_moment::{Case, Snapshot};
@@ -11,7 +11,7 @@ use sx_words::When;
 
 /// The pages at the moment that is asked for. `NoMoment` comes exactly where that isn't one of the evidence, and carries
 /// the number of commits.
-#[tactic(auto, using(crate::proofs::MomentLines::can_miss), unfolding(crate::specs::Moments::moment_of))]
+#[tactic(auto, using(crate::proofs::Missing::can_miss), unfolding(crate::specs::Moments::moment_of))]
 pub fn snapshot_asked<'c, 'a>(case: &'c Case<'a>, at: When) -> Result<Snapshot<'c, 'a>, Refused>
     ensures told { Gives (λ snapshot. snapshot.moment) result (moment_of case.now at) }
     ensures case { IfOk result (λ snapshot. snapshot.case.now ≡ case.now) }
@@ -27,7 +27,7 @@ pub fn snapshot_asked<'c, 'a>(case: &'c Case<'a>, at: When) -> Result<Snapshot<'
 }
 
 // The pages at the last moment.
-#[tactic(auto, using(crate::proofs::MomentLines::last_is))]
+#[tactic(auto, using(crate::proofs::Missing::last_is))]
 fn last_snapshot<'c, 'a>(case: &'c Case<'a>) -> Snapshot<'c, 'a>
     ensures last { last_or None (moments_of case.now) ≡ Some result.moment }
     ensures case { result.case.now ≡ case.now }

@@ -1,18 +1,19 @@
 //! The texts of refusals.
-ghost use Rattle.std.specs.Prelude.{◌≡◌, ◌⊎◌, ◌≤◌, IfOk, IfErr, IfSome, IfNone, IsErrOf, OnOk, OnErr, string_bytes, Err};
+ghost use Rattle.std.specs.Prelude.{◌≡◌, ◌⊎◌, ◌≤◌, IfOk, IfSome, IfNone, IsErrOf, OnOk, OnErr, string_bytes, Err};
 ghost use Rattle.std.specs.Io.KnownBytes.{Appends};
 ghost use Rattle.sx_base.specs.Causes.{Rose};
 ghost use Rattle.sx_base.specs.declared.evidence.Part.{Part};
-ghost use Rattle.sx_app.specs.Answers.{Answers, answered, Ends, HasNumber, IsUnwritten, Prints};
+ghost use Rattle.sx_lines.specs.Lines.{AppendsSome};
+ghost use Rattle.sx_app.specs.Answers.{Answers, answered, Prints};
+ghost use Rattle.sx_app.specs.Owed.{Ends, HasNumber};
 ghost use Rattle.sx_app.specs.Refusals.{refusal_text};
-ghost use Rattle.sx_app.specs.Texts.{AppendsSome};
 
-use crate::lines::write_piece;
 use crate::refused::Refused;
 use std::alloc::{AllocError, Global};
 use sx_base::{Moment, Part};
 use sx_edge::Sink;
 use sx_header::HeaderFault;
+use sx_lines::{Unwritten, write_piece};
 
 /// How the program is used.
 const USAGE: &str =
@@ -26,11 +27,12 @@ pub fn refuse<W: Sink>(alloc: Global, part: Part, refused: Refused, out: &mut W)
     ensures answers { Answers (answered part (Err refused)) (W.taken out.old) (W.taken out.new) (Err result) }
     ensures prints { Prints part (W.taken out.old) (W.taken out.new) result }
     ensures ends { Ends refused result }
+    ensures later { W.faults out.old ≤ W.faults out.new }
     ensures cause { result ≡ Refused.WriteFault → (refused ≡ Refused.WriteFault) ⊎ Rose (W.faults out.old) (W.faults out.new) }
 {
     match write_refusal(alloc, part, refused, out) {
         Ok(()) => refused,
-        Err(unwritten) => unwritten,
+        Err(unwritten) => Refused::from(unwritten),
     }
 }
 
@@ -40,12 +42,12 @@ fn write_refusal<W: Sink>(
     part: Part,
     refused: Refused,
     out: &mut W,
-) -> Result<(), Refused>
+) -> Result<(), Unwritten>
     ensures whole { OnOk result (Appends (W.taken out.old) (W.taken out.new) (refusal_text part refused)) }
     ensures front { OnErr result (AppendsSome (W.taken out.old) (W.taken out.new) (refusal_text part refused)) }
-    ensures may { IfErr result IsUnwritten }
-    ensures memory { IsErrOf result Refused.Memory → HasNumber refused }
-    ensures cause { IsErrOf result Refused.WriteFault → Rose (W.faults out.old) (W.faults out.new) }
+    ensures later { W.faults out.old ≤ W.faults out.new }
+    ensures memory { IsErrOf result Unwritten.Memory → HasNumber refused }
+    ensures cause { IsErrOf result Unwritten.WriteFault → Rose (W.faults out.old) (W.faults out.new) }
 {
     match plain_text(refused) {
         Some(text) => write_piece(out, text.as_bytes()),

@@ -1,11 +1,13 @@
 //! Why the examiner doesn't answer with what was asked for, and the exit status of each end.
 ghost use Rattle.std.specs.Prelude.{◌≡◌};
+ghost use Rattle.sx_app.specs.Owed.{refused_by};
 ghost use Rattle.sx_app.specs.Refusals.{status_of};
-ghost use Rattle.sx_app.specs.declared.refused.Refused.TheVariants.{ReadFault, WriteFault, Memory};
+ghost use Rattle.sx_app.specs.declared.refused.Refused.TheVariants.{Memory};
 
 use std::alloc::{AllocError, AllocFailed};
 use sx_base::{Moment, Part};
 use sx_header::HeaderFault;
+use sx_lines::Unwritten;
 use thiserror::Error;
 
 /// Why an examination doesn't answer with what was asked for.
@@ -57,6 +59,17 @@ impl From<AllocError> for Refused {
 
     fn from(_: AllocError) -> Self {
         Refused::Memory
+    }
+}
+
+impl From<Unwritten> for Refused {
+    ghost from_gives = { λ unwritten refused. refused ≡ refused_by unwritten };
+
+    fn from(unwritten: Unwritten) -> Self {
+        match unwritten {
+            Unwritten::WriteFault => Refused::WriteFault,
+            Unwritten::Memory => Refused::Memory,
+        }
     }
 }
 

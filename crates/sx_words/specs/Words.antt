@@ -11,16 +11,24 @@ use Rattle.sx_words.specs.declared.command.Command.{Command}
 use Rattle.sx_words.specs.declared.command.Command.TheVariants as commands
 use Rattle.sx_words.specs.declared.key.Key.{Key}
 use Rattle.sx_words.specs.declared.key.Key.TheVariants.{No, At}
+use Rattle.sx_words.specs.declared.key.Wanted.{Wanted}
+use Rattle.sx_words.specs.declared.key.Wanted.TheVariants.{Required, Allowed}
+use Rattle.sx_words.specs.declared.request.Question.{Question as ReadQuestion}
+use Rattle.sx_words.specs.declared.request.Question.TheVariants as questions
 use Rattle.sx_words.specs.declared.request.Request.{Request}
 use Rattle.sx_words.specs.declared.request.Request.TheVariants as requests
 use Rattle.sx_words.specs.declared.request.When.{When}
 use Rattle.sx_words.specs.declared.request.When.TheVariants as whens
 use Rattle.sx_words.specs.declared.request.Usage.{Usage}
 
--- what words can ask for, with names as lists of bytes
+-- what can be asked of evidence, with names as lists of bytes: one case a command
+pub data Question : Type 0 where
+  Timeline : Question
+  Page : (number : ℕ) → (at : When) → Question
+
+-- what words can ask for: a question about the evidence of a database's name
 pub data Asked : Type 0 where
-  Timeline : (db : List ℕ) → Asked
-  Page : (db : List ℕ) → (number : ℕ) → (at : When) → Asked
+  Evidence : (db : List ℕ) → (question : Question) → Asked
 
 -- a database's name isn't empty, and isn't the word that is kept for a command without one
 abbrev pub is_name : List ℕ → Bool
@@ -34,15 +42,10 @@ command_named word =
     if bytes_eq word (codes "timeline") then Some commands.Timeline
     else (if bytes_eq word (codes "page") then Some commands.Page else None)
 
--- the keys that the words behind a command may set
-abbrev pub allowed : Command → List Key
-allowed commands.Timeline = []
-allowed commands.Page = No ∷ At ∷ []
-
--- those that they must set
-abbrev pub required : Command → List Key
-required commands.Timeline = []
-required commands.Page = No ∷ []
+-- the keys that the words behind a command may set, and which of them they must: one row a command
+abbrev pub keys_of : Command → List Wanted
+keys_of commands.Timeline = []
+keys_of commands.Page = Required No ∷ Allowed At ∷ []
 
 -- ---- words that set a key
 
@@ -76,13 +79,21 @@ abbrev pub value_of : Key → List (List ℕ) → Option (List ℕ)
 value_of key [] = None
 value_of key (word ∷ words) = first_given (setting_of key word) (value_of key words)
 
--- the words set keys of the table's row: each sets one that is allowed, none is set twice, and those that are required
--- are set
-unfoldable pub are_settings : List Key → List Key → List (List ℕ) → Bool
-are_settings allowed required words =
-    list_all (λ word. list_any (λ key. sets key word) allowed) words
-    && list_all (λ key. nat_le (count_by (sets key) words) 1) allowed
-    && list_all (λ key. is_some (value_of key words)) required
+-- the key of a row's entry
+abbrev pub key_of : Wanted → Key
+key_of (Required key) = key
+key_of (Allowed key) = key
+
+-- a required key is set once, and one that is allowed at most once
+abbrev pub is_met : Wanted → List (List ℕ) → Bool
+is_met (Required key) words = count_by (sets key) words == 1
+is_met (Allowed key) words = nat_le (count_by (sets key) words) 1
+
+-- the words set keys of a row: each sets one of them, and each is set as the row wants it
+unfoldable pub are_settings : List Wanted → List (List ℕ) → Bool
+are_settings row words =
+    list_all (λ word. list_any (λ wanted. sets (key_of wanted) word) row) words
+    && list_all (λ wanted. is_met wanted words) row
 
 -- ---- values
 
@@ -115,21 +126,21 @@ when_of (Some text) =
 -- ---- the request
 
 -- a page at some time, where both could be read
-abbrev pub page_asked : List ℕ → Option ℕ → Option When → Option Asked
-page_asked db (Some number) (Some at) = Some (Page db number at)
-page_asked db (Some number) None = None
-page_asked db None at = None
+abbrev pub page_of : Option ℕ → Option When → Option Question
+page_of (Some number) (Some at) = Some (Page number at)
+page_of (Some number) None = None
+page_of None at = None
 
--- what a command asks for, with words that set its keys
-unfoldable pub asked_of : Command → List ℕ → List (List ℕ) → Option Asked
-asked_of commands.Timeline db words = Some (Timeline db)
-asked_of commands.Page db words = page_asked db (page_number_of (value_of No words)) (when_of (value_of At words))
+-- the question of a command, with words that set its keys, where their values can be read: one case a command
+unfoldable pub question_of : Command → List (List ℕ) → Option Question
+question_of commands.Timeline words = Some Timeline
+question_of commands.Page words = page_of (page_number_of (value_of No words)) (when_of (value_of At words))
 
 -- what a name, a command and the words behind it ask for
 unfoldable pub command_of : List ℕ → Option Command → List (List ℕ) → Option Asked
 command_of db None words = None
 command_of db (Some command) words =
-    if is_name db && are_settings (allowed command) (required command) words then asked_of command db words else None
+    if is_name db && are_settings (keys_of command) words then option_map (Evidence db) (question_of command words) else None
 
 -- what the words ask for: they are a name, a command, and words that set its keys
 unfoldable pub request_of : List (List ℕ) → Option Asked
@@ -143,10 +154,14 @@ request_of (db ∷ command ∷ words) = command_of db (command_named command) wo
 abbrev pub texts : List (String Global) → List (List ℕ)
 texts words = map string_bytes words
 
+-- what a question asks for, without where its names lie in memory: one case a command
+abbrev pub question_by : ReadQuestion → Question
+question_by questions.Timeline = Timeline
+question_by (questions.Page number at) = Page number at
+
 -- what a request asks for, without where its names lie in memory
 abbrev pub asked_by : Request → Asked
-asked_by (requests.Timeline db) = Timeline db.now
-asked_by (requests.Page db number at) = Page db.now number at
+asked_by (requests.Evidence db question) = Evidence db.now (question_by question)
 
 -- what was read: a request, or that the words are outside the grammar
 abbrev pub asked : Result Request Usage → Option Asked

@@ -1,8 +1,8 @@
 //! The table of commands.
 ghost use Rattle.std.specs.Prelude.{◌≡◌};
-ghost use Rattle.sx_words.specs.Words.{command_named, allowed, required};
+ghost use Rattle.sx_words.specs.Words.{command_named, keys_of};
 
-use crate::key::Key;
+use crate::key::{Key, Wanted};
 
 /// A command over a database: a row of the table below.
 #[derive(Clone, Copy, Debug, PartialEq, Eq)]
@@ -23,23 +23,13 @@ pub fn command_named(word: &str) -> Option<Command>
 }
 
 impl Command {
-    /// The keys that the words behind the command may set.
-    pub fn allowed(self) -> &'static [Key]
-        ensures { result.now ≡ allowed self }
+    /// The keys that the words behind the command may set, and which of them they must.
+    pub fn keys(self) -> &'static [Wanted]
+        ensures { result.now ≡ keys_of self }
     {
         match self {
             Command::Timeline => &[],
-            Command::Page => &[Key::No, Key::At],
-        }
-    }
-
-    /// Those of them that the words must set.
-    pub fn required(self) -> &'static [Key]
-        ensures { result.now ≡ required self }
-    {
-        match self {
-            Command::Timeline => &[],
-            Command::Page => &[Key::No],
+            Command::Page => &[Wanted::Required(Key::No), Wanted::Allowed(Key::At)],
         }
     }
 }

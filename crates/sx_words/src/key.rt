@@ -1,6 +1,6 @@
 //! The keys of the commands.
 ghost use Rattle.std.specs.Prelude.{◌≡◌};
-ghost use Rattle.sx_words.specs.Words.{key_name};
+ghost use Rattle.sx_words.specs.Words.{key_name, key_of};
 
 /// A key that a word `key=value` sets.
 #[derive(Clone, Copy, Debug, PartialEq, Eq)]
@@ -19,6 +19,26 @@ impl Key {
         match self {
             Key::No => "no",
             Key::At => "at",
+        }
+    }
+}
+
+/// What a command wants of a key.
+#[derive(Clone, Copy, Debug, PartialEq, Eq)]
+pub enum Wanted {
+    /// That it is set, once.
+    Required(Key),
+    /// That it is set at most once.
+    Allowed(Key),
+}
+
+impl Wanted {
+    /// The key.
+    pub fn key(self) -> Key
+        ensures { result ≡ key_of self }
+    {
+        match self {
+            Wanted::Required(key) | Wanted::Allowed(key) => key,
         }
     }
 }

@@ -1,12 +1,12 @@
 //! The grammar of the words.
 ghost use Rattle.std.specs.Prelude.{◌≡◌, ◌∷◌, []};
-ghost use Rattle.std.specs.Option.{option_copied};
-ghost use Rattle.sx_words.specs.Words.{texts, request_of, command_of, asked_of, command_named, page_asked, page_number_of, when_of, asked, is_name, numbered};
+ghost use Rattle.std.specs.Option.{option_copied, option_map};
+ghost use Rattle.sx_words.specs.Words.{texts, request_of, command_of, question_of, page_of, command_named, page_number_of, when_of, asked, question_by, is_name, numbered};
 
 use crate::command::{Command, command_named};
 use crate::key::Key;
 use crate::number::number_of;
-use crate::request::{Request, Usage, When};
+use crate::request::{Question, Request, Usage, When};
 use crate::settings::{are_settings, value_of};
 use sx_base::Moment;
 
@@ -40,10 +40,12 @@ fn read_command<'w>(db: &'w str, command: &str, words: &'w [String]) -> Result<R
     let Some(command) = command_named(command) else {
         return Err(Usage);
     };
-    if is_name(db) && are_settings(command.allowed(), command.required(), words) {
-        read_settings(command, db, words)
-    } else {
-        Err(Usage)
+    if !(is_name(db) && are_settings(command.keys(), words)) {
+        return Err(Usage);
+    }
+    match read_question(command, words) {
+        Some(question) => Ok(Request::Evidence { db, question }),
+        None => Err(Usage),
     }
 }
 
@@ -54,33 +56,25 @@ fn is_name(word: &str) -> bool
     !(word.is_empty() || word == "drill")
 }
 
-// Reads the values of a command's keys.
-#[tactic(auto, unfolding(crate::specs::Words::asked_of))]
-fn read_settings<'w>(
-    command: Command,
-    db: &'w str,
-    words: &'w [String],
-) -> Result<Request<'w>, Usage>
-    ensures { asked result ≡ asked_of command db.now (texts words.now) }
+// The question of a command, with words that set its keys, where their values can be read.
+#[tactic(auto, unfolding(crate::specs::Words::question_of))]
+fn read_question(command: Command, words: &[String]) -> Option<Question>
+    ensures { option_map question_by result ≡ question_of command (texts words.now) }
 {
     match command {
-        Command::Timeline => Ok(Request::Timeline { db }),
-        Command::Page => {
-            let no = page_number(value_of(Key::No, words));
-            let at = when(value_of(Key::At, words));
-            read_page(db, no, at)
-        }
+        Command::Timeline => Some(Question::Timeline),
+        Command::Page => page(
+            page_number(value_of(Key::No, words)),
+            when(value_of(Key::At, words)),
+        ),
     }
 }
 
 // A page at some time, where both could be read.
-fn read_page<'w>(db: &'w str, no: Option<u32>, at: Option<When>) -> Result<Request<'w>, Usage>
-    ensures { asked result ≡ page_asked db.now «no» at }
+fn page(no: Option<u32>, at: Option<When>) -> Option<Question>
+    ensures { option_map question_by result ≡ page_of «no» at }
 {
-    match (no, at) {
-        (Some(no), Some(at)) => Ok(Request::Page { db, no, at }),
-        _ => Err(Usage),
-    }
+    Some(Question::Page { no: no?, at: at? })
 }
 
 // The number of a page, from 1.

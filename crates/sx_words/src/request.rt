@@ -2,13 +2,20 @@
 
 use sx_base::Moment;
 
-/// What the words ask for. `db` is the name of the database file; the names of its companions follow from it.
+/// What the words ask for.
 #[derive(Clone, Copy, Debug, PartialEq, Eq)]
 pub enum Request<'w> {
-    /// `<db> timeline`: the states that the evidence still holds.
-    Timeline { db: &'w str },
-    /// `<db> page no=N [at=M]`: page `no`, from 1, at some time.
-    Page { db: &'w str, no: u32, at: When },
+    /// `<db> ..`: a question about the evidence of a database's name. The names of its companions follow from it.
+    Evidence { db: &'w str, question: Question },
+}
+
+/// A question about the evidence of a database's name.
+#[derive(Clone, Copy, Debug, PartialEq, Eq)]
+pub enum Question {
+    /// `timeline`: the states that the evidence still holds.
+    Timeline,
+    /// `page no=N [at=M]`: page `no`, from 1, at some time.
+    Page { no: u32, at: When },
 }
 
 /// When: which states of the database a command looks at.

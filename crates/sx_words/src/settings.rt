@@ -1,39 +1,50 @@
 //! Words that set keys: `key=value`, split at the first `=`.
-ghost use Rattle.std.specs.Prelude.{◌≡◌, count_by, nat_le, is_some, string_bytes};
+ghost use Rattle.std.specs.Prelude.{◌≡◌, count_by, string_bytes};
 ghost use Rattle.std.specs.List.{list_all, list_any};
 ghost use Rattle.std.specs.Option.{option_copied};
-ghost use Rattle.sx_words.specs.Words.{texts, sets, setting_of, are_settings, value_of};
+ghost use Rattle.sx_words.specs.Words.{texts, sets, setting_of, are_settings, is_met, key_of, value_of};
 
-use crate::key::Key;
+use crate::key::{Key, Wanted};
 
-/// Whether the words set keys of a command: each sets one that is allowed, none is set twice, and those that are
-/// required are set.
+/// Whether the words set keys of a row of the table: each sets one that is in the row, none is set twice, and those that
+/// are required are set.
 #[tactic(auto, using(crate::proofs::Lists::all_map), unfolding(crate::specs::Words::are_settings))]
-pub fn are_settings(allowed: &[Key], required: &[Key], words: &[String]) -> bool
-    ensures { result ≡ are_settings allowed.now required.now (texts words.now) }
+pub fn are_settings(row: &[Wanted], words: &[String]) -> bool
+    ensures { result ≡ are_settings row.now (texts words.now) }
 {
-    all_set(allowed, words) && none_twice(allowed, words) && all_there(required, words)
+    all_set(row, words) && all_met(row, words)
 }
 
 // Whether each word sets one of the keys.
-fn all_set(keys: &[Key], words: &[String]) -> bool
-    ensures { result ≡ list_all (λ word. list_any (λ key. sets key (string_bytes word)) keys.now) words.now }
+fn all_set(row: &[Wanted], words: &[String]) -> bool
+    ensures { result ≡ list_all (λ word. list_any (λ wanted. sets (key_of wanted) (string_bytes word)) row.now) words.now }
 {
-    words.iter().all(|word| sets_one(keys, word.as_str()))
+    words.iter().all(|word| sets_one(row, word.as_str()))
 }
 
 // Whether the word sets one of the keys.
-fn sets_one(keys: &[Key], word: &str) -> bool
-    ensures { result ≡ list_any (λ key. sets key word.now) keys.now }
+fn sets_one(row: &[Wanted], word: &str) -> bool
+    ensures { result ≡ list_any (λ wanted. sets (key_of wanted) word.now) row.now }
 {
-    keys.iter().any(|key| setting(*key, word).is_some())
+    row.iter()
+        .any(|wanted| setting(wanted.key(), word).is_some())
 }
 
-// Whether no key is set twice.
-fn none_twice(keys: &[Key], words: &[String]) -> bool
-    ensures { result ≡ list_all (λ key. nat_le (count_by (sets key) (texts words.now)) 1) keys.now }
+// Whether each key is set as the row wants it.
+fn all_met(row: &[Wanted], words: &[String]) -> bool
+    ensures { result ≡ list_all (λ wanted. is_met wanted (texts words.now)) row.now }
 {
-    keys.iter().all(|key| times_set(*key, words) <= 1)
+    row.iter().all(|wanted| is_met(*wanted, words))
+}
+
+// Whether a key is set as the row wants it: once where it is required, at most once where it is allowed.
+fn is_met(wanted: Wanted, words: &[String]) -> bool
+    ensures { result ≡ is_met wanted (texts words.now) }
+{
+    match wanted {
+        Wanted::Required(key) => times_set(key, words) == 1,
+        Wanted::Allowed(key) => times_set(key, words) <= 1,
+    }
 }
 
 // How many of the words set the key.
@@ -44,13 +55,6 @@ fn times_set(key: Key, words: &[String]) -> usize
         .iter()
         .filter(|word| setting(key, word.as_str()).is_some())
         .count()
-}
-
-// Whether each of the keys is set.
-fn all_there(keys: &[Key], words: &[String]) -> bool
-    ensures { result ≡ list_all (λ key. is_some (value_of key (texts words.now))) keys.now }
-{
-    keys.iter().all(|key| value_of(*key, words).is_some())
 }
 
 /// The value that the first word that sets the key sets it to.

@@ -26,7 +26,8 @@ fn check_page(
     }
     let (no, at) = page;
     let db = "a=b.db";
-    assert_eq!(rt; read_words(&words), Ok(Request::Page { db, no, at }));
+    let question = Question::Page { no, at };
+    assert_eq!(rt; read_words(&words), Ok(Request::Evidence { db, question }));
     Ok(())
 }
 

@@ -1,0 +1,25 @@
+-- The table of commands: what a question asks for over gathered evidence, and which refusals it may meet there.
+use Rattle.std.specs.Prelude.{ℕ, List, Result, Ok}
+use Rattle.sx_base.specs.declared.evidence.Part.{Part}
+use Rattle.sx_base.specs.declared.evidence.Part.TheVariants as parts
+use Rattle.sx_moment.specs.Gathered.{Gathered}
+use Rattle.sx_page_text.specs.Page.{page_lines}
+use Rattle.sx_timeline_text.specs.Timeline.{timeline_lines}
+use Rattle.sx_words.specs.Words as words
+use Rattle.sx_app.specs.Evidence.{◌>>=◌}
+use Rattle.sx_app.specs.Moments.{moment_of, MayMiss}
+use Rattle.sx_app.specs.declared.refused.Refused.{Refused}
+
+-- the part of the evidence that a question names, the database where it names none
+abbrev pub part_named : words.Question → Part
+part_named question = parts.Database
+
+-- the lines that a question asks for over a case, or why there are none: one case a command
+abbrev pub reply_over : words.Question → Gathered → Result (List (List ℕ)) Refused
+reply_over words.Timeline case = Ok (timeline_lines case)
+reply_over (words.Page number at) case = moment_of case at >>= λ moment. Ok (page_lines case moment number)
+
+-- which moments, tables and bytes that aren't there a question may meet: one row a command
+abbrev pub MayMeetOver : words.Question → Refused → Type 0
+MayMeetOver words.Timeline refused = ⊥
+MayMeetOver (words.Page number at) refused = MayMiss at refused

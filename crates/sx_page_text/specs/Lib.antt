@@ -1,0 +1,4 @@
+pub mod NodeText
+pub mod Page
+pub mod Places
+pub mod Rest

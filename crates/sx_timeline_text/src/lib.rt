@@ -1,0 +1,10 @@
+//! The text of `timeline`: the database, its write-ahead log, its journal, and a line for each moment.
+#![tactic(auto)]
+
+mod tally;
+mod timeline;
+
+pub use timeline::TimelineLines;
+
+#[cfg(test)]
+mod tests;
