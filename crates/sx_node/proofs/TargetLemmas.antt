@@ -3,6 +3,7 @@ use Rattle.std.proofs.Common.{◌≡◌, ℕ, zero, suc, ◌+◌, ◌-◌, ◌*�
 use Rattle.std.specs.List.{flat_map, range_with_len}
 use Rattle.std.specs.Option.{option_to_list}
 use Rattle.std.proofs.lemmas.List.{length-append}
+use Rattle.sx_cell.specs.Local.{spilled}
 use Rattle.sx_cell.specs.declared.cell.Cell.{Cell}
 use Rattle.sx_cell.specs.declared.cell.CellFault.{CellFault}
 use Rattle.sx_node.specs.declared.targets.NodeTarget.{NodeTarget}
@@ -49,13 +50,13 @@ few_children : (index : ℕ) (child : Option ℕ) → length (child_target index
 few_children index None = omega arith
 few_children index (Some page) = omega arith
 
-few_overflow : (index : ℕ) (page : Option ℕ) → length (overflow_target index page) ≤ 1
-few_overflow index None = omega arith
-few_overflow index (Some page) = omega arith
+few_overflow : (index rest : ℕ) (page : Option ℕ) → length (overflow_target index rest page) ≤ 1
+few_overflow index rest None = omega arith
+few_overflow index rest (Some page) = omega arith
 
 few_cell : (index : ℕ) (read : Result Cell CellFault) → length (cell_targets index read) ≤ 2
 few_cell index (Ok cell) =
-    simp length-append (omega (arith, few_children index cell.child, few_overflow index cell.overflow))
+    simp length-append (omega (arith, few_children index cell.child, few_overflow index (spilled cell) cell.overflow))
 few_cell index (Err fault) = omega arith
 
 few_cells : (node : NodePage) (many index : ℕ) → length (flat_map (λ i. cell_targets i (cell_in node i)) (range_with_len index many)) ≤ 2 * many

@@ -3,6 +3,7 @@ use Rattle.std.specs.Prelude.{ℕ, ◌-◌, List, [], ◌∷◌, ◌++◌, Optio
 use Rattle.std.specs.List.{flat_map, range_with_len}
 use Rattle.sx_base.specs.declared.role.Role.{Role}
 use Rattle.sx_base.specs.declared.role.Role.TheVariants.{Node, Overflow as OverflowRole}
+use Rattle.sx_cell.specs.Local.{spilled}
 use Rattle.sx_cell.specs.declared.cell.Cell.{Cell}
 use Rattle.sx_cell.specs.declared.cell.CellFault.{CellFault}
 use Rattle.sx_node.specs.declared.targets.NodeTarget.{NodeTarget}
@@ -12,13 +13,13 @@ use Rattle.sx_node.specs.Nodes.{NodePage, cell_count, cell_in, right_child}
 -- the page that is named
 abbrev pub target_page : NodeTarget → ℕ
 target_page (Child index page) = page
-target_page (Overflow index page) = page
+target_page (Overflow index page rest) = page
 target_page (Right page) = page
 
 -- what it is named as
 abbrev pub target_role : NodeTarget → Role
 target_role (Child index page) = Node
-target_role (Overflow index page) = OverflowRole
+target_role (Overflow index page rest) = OverflowRole
 target_role (Right page) = Node
 
 -- the child of a cell, if it has one
@@ -26,14 +27,14 @@ abbrev pub child_target : ℕ → Option ℕ → List NodeTarget
 child_target index None = []
 child_target index (Some page) = Child index page ∷ []
 
--- the first overflow page of a cell, if it has one
-abbrev pub overflow_target : ℕ → Option ℕ → List NodeTarget
-overflow_target index None = []
-overflow_target index (Some page) = Overflow index page ∷ []
+-- the first overflow page of a cell, if it has one, with so many bytes of the payload past the cell
+abbrev pub overflow_target : ℕ → ℕ → Option ℕ → List NodeTarget
+overflow_target index rest None = []
+overflow_target index rest (Some page) = Overflow index page rest ∷ []
 
 -- what a cell names, if it can be read
 abbrev pub cell_targets : ℕ → Result Cell CellFault → List NodeTarget
-cell_targets index (Ok cell) = child_target index cell.child ++ overflow_target index cell.overflow
+cell_targets index (Ok cell) = child_target index cell.child ++ overflow_target index (spilled cell) cell.overflow
 cell_targets index (Err fault) = []
 
 -- what the cells from an index on name, in the order of the cell pointer array

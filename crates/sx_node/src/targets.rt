@@ -25,6 +25,8 @@ pub enum NodeTarget {
         cell: u32,
         /// The page number of the overflow page.
         page: u32,
+        /// How many bytes of the cell's payload stand on overflow pages, from 1 to 2147483647.
+        rest: u32,
     },
     /// The right-most child, by its page number.
     Right(u32),
@@ -191,10 +193,15 @@ fn next_naming(node: &Node<'_>, from: u32) -> Option<Naming>
 
 /// The child and the first overflow page of a cell of that index.
 fn targets_of_cell(cell: &Cell, index: u32) -> Option<(NodeTarget, Option<NodeTarget>)>
+    requires { cell.now.payload ≤ 2147483647 }
     ensures { MatchOption result (cell_targets index (Ok cell.now) ≡ []) (λ named. cell_targets index (Ok cell.now) ≡ named.0 ∷ option_to_list named.1) }
 {
     let overflow = match cell.overflow {
-        Some(page) => Some(NodeTarget::Overflow { cell: index, page }),
+        Some(page) => Some(NodeTarget::Overflow {
+            cell: index,
+            page,
+            rest: cell.spilled() as u32,
+        }),
         None => None,
     };
     match cell.child {

@@ -258,7 +258,11 @@ fn an_interior_page_of_an_index_names_pages(rt: HostRuntime) -> Result<(), Fail>
     let want = [
         NodeTarget::Child { cell: 0, page: 3 },
         NodeTarget::Child { cell: 2, page: 5 },
-        NodeTarget::Overflow { cell: 2, page: 9 },
+        NodeTarget::Overflow {
+            cell: 2,
+            page: 9,
+            rest: 64,
+        },
         NodeTarget::Right(4),
     ];
     for target in want {

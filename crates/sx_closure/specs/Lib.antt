@@ -1,0 +1,4 @@
+pub mod Graph
+pub mod Chains
+pub mod Tallying
+pub mod Laws
