@@ -12,7 +12,7 @@ use Rattle.sx_closure.specs.declared.pair.Pair.{Pair}
 use Rattle.sx_closure.specs.declared.pair.Source.{Source}
 use Rattle.sx_closure.specs.declared.pair.Source.TheVariants.{Root, Cell, Page}
 use Rattle.sx_closure.specs.declared.pair.Target.{Target}
-use Rattle.sx_closure.specs.Graph.{same_pair, is_in, is_named, ComesFrom, ComesFromNoPage, Graph, IsGraph, is_held, to_page, only}
+use Rattle.sx_closure.specs.Graph.{same_pair, is_in, is_named, comes_from, comes_from_no_page, Graph, IsGraph, is_held, to_page, only}
 use Rattle.sx_closure.specs.Chains.{page_of, page_before, rest_of, rest_at, IsChain, is_overflow, IsPlaced, IsLeft, number_by, number_of}
 use Rattle.sx_closure.specs.Tallying.{Table, blank, rank_of, entry_at, one_of, one_at, left_by_rank, number_at, number_before, numbered_at, numbered, left_at}
 use Rattle.sx_closure.proofs.Tallies.{Differ, at_rank, set_at_rank}
@@ -236,15 +236,15 @@ pub record IsMetAt (pairs : List Pair) (page : ℕ) : Type 0 where
   pub there : is_in pairs pair ≡ true
   pub at : pair.page ≡ page
 
-no_page : (source : Source) (page : ℕ) → ComesFromNoPage source → page_of source ≡ Some page → ⊥
+no_page : (source : Source) (page : ℕ) → comes_from_no_page source ≡ true → page_of source ≡ Some page → ⊥
 no_page Root page holds is = let never : None ≡ Some page = is in cc
 no_page (Cell number cell) page holds is = let never : None ≡ Some page = is in cc
-no_page (Page number) page holds is = holds
+no_page (Page number) page holds is = false≢true holds
 
-that_page : (source : Source) (from page : ℕ) → ComesFrom from source → page_of source ≡ Some page → from ≡ page
+that_page : (source : Source) (from page : ℕ) → comes_from from source ≡ true → page_of source ≡ Some page → from ≡ page
 that_page Root from page holds is = let never : None ≡ Some page = is in cc
 that_page (Cell number cell) from page holds is = let never : None ≡ Some page = is in cc
-that_page (Page number) from page holds is = let both : Some number ≡ Some page = is in let same : number ≡ page = cc in sym holds ∙ same
+that_page (Page number) from page holds is = let both : Some number ≡ Some page = is in let same : number ≡ page = cc in sym (eqb-true number from holds) ∙ same
 
 -- what a target of the list that names a pair is: the one reference to its page
 naming_one : (P : Target → Type 0) (some seen : List Target) (pair : Pair) (target : Target) (named : IsNaming P some pair) → Among seen named.target
@@ -263,15 +263,15 @@ came_from graph met i page d target is named within one from =
     sym (named_append graph.roots (flat_map graph.targets asked) pair) ∙ named i d within in
     elim (or_cases (is_named graph.roots pair) (is_named (flat_map graph.targets asked) pair) names) [
       | inl root ↦
-          let found = naming (λ t. ComesFromNoPage t.source) graph.roots pair is.root_sources root in
-          let same = naming_one (λ t. ComesFromNoPage t.source) graph.roots (seen_by graph met) pair target found
+          let found = naming (λ t. comes_from_no_page t.source ≡ true) graph.roots pair is.root_sources root in
+          let same = naming_one (λ t. comes_from_no_page t.source ≡ true) graph.roots (seen_by graph met) pair target found
           (among_left graph.roots (flat_map graph.targets met) found.target found.among) one in
           absurd (no_page found.target.source page found.holds (ap (λ t. page_of t.source) same ∙ from))
       | inr more ↦
           let source = named_from graph.targets asked pair more in
-          let found = naming (λ t. ComesFrom source.source.page t.source) (graph.targets source.source) pair (is.sources source.source) source.names in
+          let found = naming (λ t. comes_from source.source.page t.source ≡ true) (graph.targets source.source) pair (is.sources source.source) source.names in
           let there : is_in met source.source ≡ true = is_in_take met i source.source source.there in
-          let same = naming_one (λ t. ComesFrom source.source.page t.source) (graph.targets source.source) (seen_by graph met) pair target found
+          let same = naming_one (λ t. comes_from source.source.page t.source ≡ true) (graph.targets source.source) (seen_by graph met) pair target found
           (among_right graph.roots (flat_map graph.targets met) found.target (among_pieces graph.targets met source.source found.target there found.among)) one in
           record { pair = source.source; there = source.there; at = that_page found.target.source source.source.page page found.holds (ap (λ t. page_of t.source) same ∙ from) }
     ]

@@ -1,6 +1,6 @@
 -- Which pages refer to which, over any pages and any targets. A pair is a page in a role; a target is a pair that is named
 -- somewhere, with its source. A target that is a held page is a reference, any other is a dead link.
-use Rattle.std.specs.Prelude.{◌≡◌, ℕ, zero, suc, ◌*◌, ◌^◌, ◌<◌, ◌≤◌, ◌==◌, ◌&&◌, ◌||◌, Bool, true, not, List, [], ◌∷◌, ◌++◌, length, filter, slice_index, Option, Some, None, ⊤}
+use Rattle.std.specs.Prelude.{◌≡◌, ℕ, zero, suc, ◌*◌, ◌^◌, ◌<◌, ◌≤◌, ◌==◌, ◌&&◌, ◌||◌, Bool, true, false, IsTrue, not, List, [], ◌∷◌, ◌++◌, length, filter, slice_index, Option, Some, None}
 use Rattle.std.specs.List.{flat_map, list_any, All}
 use Rattle.sx_base.specs.declared.role.Role.{Role}
 use Rattle.sx_base.specs.declared.role.Role.TheVariants.{Node, Overflow, Trunk, FreeLeaf, PointerMap}
@@ -98,16 +98,16 @@ abbrev pub Rises : List ℕ → Type 0
 Rises held = (i j : ℕ) → i < j → j < length held → slice_index held i < slice_index held j
 
 -- where the source is a page and no cell, it is that page
-abbrev pub ComesFrom : ℕ → Source → Type 0
-ComesFrom page (Page number) = number ≡ page
-ComesFrom page Root = ⊤
-ComesFrom page (Cell number cell) = ⊤
+abbrev pub comes_from : ℕ → Source → Bool
+comes_from page (Page number) = number == page
+comes_from page Root = true
+comes_from page (Cell number cell) = true
 
 -- the source is no page, but a root or a cell
-abbrev pub ComesFromNoPage : Source → Type 0
-ComesFromNoPage (Page number) = ⊥
-ComesFromNoPage Root = ⊤
-ComesFromNoPage (Cell number cell) = ⊤
+abbrev pub comes_from_no_page : Source → Bool
+comes_from_no_page (Page number) = false
+comes_from_no_page Root = true
+comes_from_no_page (Cell number cell) = true
 
 -- what holds of the graph of a database: the held pages rise and are of 32 bits, only a root names a page as a pointer
 -- map, a page can't name more than it has bytes, and what comes from a page is named by that page
@@ -117,5 +117,5 @@ pub record IsGraph (graph : Graph) : Type 0 where
   pub no_maps : (pair : Pair) (target : Target) → is_named (graph.targets pair) target.pair ≡ true → role_number target.pair.role < 4
   pub some : (pair : Pair) → length (graph.targets pair) ≤ 2 ^ 17
   pub few_roots : length graph.roots < 2 ^ 62
-  pub sources : (pair : Pair) → All (λ target. ComesFrom pair.page target.source) (graph.targets pair)
-  pub root_sources : All (λ target. ComesFromNoPage target.source) graph.roots
+  pub sources : (pair : Pair) → All (λ target. IsTrue (comes_from pair.page target.source)) (graph.targets pair)
+  pub root_sources : All (λ target. IsTrue (comes_from_no_page target.source)) graph.roots

@@ -1,5 +1,7 @@
 //! Pages in their roles, and what refers to them.
 
+ghost use Rattle.std.specs.Prelude.{◌≡◌};
+
 use sx_base::Role;
 
 /// A page in a role.
@@ -37,4 +39,17 @@ pub struct Target {
     /// How many bytes of the cell's payload aren't in the cell, where it is named as the first overflow page of a cell
     /// ("Cell Payload Overflow Pages"); else 0.
     pub rest: u32,
+}
+
+impl Target {
+    /// A page in a role that is named somewhere, with so many bytes of a payload behind the cell that names it.
+    pub fn new(page: u32, role: Role, source: Source, rest: u32) -> Self
+        ensures { result ≡ record { pair = record { page = page; role = role }; source = source; rest = rest } }
+    {
+        Target {
+            pair: Pair { page, role },
+            source,
+            rest,
+        }
+    }
 }

@@ -4,8 +4,8 @@ ghost use Rattle.sx_closure.specs.Graph.{Rises};
 ghost use Rattle.sx_closure.specs.Chains.{page_before, number_of};
 ghost use Rattle.sx_closure.specs.Tallying.{is_marked, with_mark, counted, blank, count_at, one_of, one_at, number_at, number_before, numbered, left_at};
 
-use crate::pair::{Pair, Source, Target};
 use crate::chain::{number_of, page_before};
+use crate::pair::{Pair, Source, Target};
 use crate::rank::rank_of;
 use std::marker::Model;
 use sx_base::Role;

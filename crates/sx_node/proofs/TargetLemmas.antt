@@ -70,10 +70,14 @@ few_right : (right : Option ℕ) → length (right_target right) ≤ 1
 few_right None = omega arith
 few_right (Some page) = omega arith
 
--- a page has room for the pointers of its cells, each of which names two pages at most
-pub few_targets : (node : NodePage) → HoldsArray node → length (targets_of node) < 2 ^ 32
+-- each cell names two pages at most
+pub few_names : (node : NodePage) → length (targets_of node) ≤ 2 * cell_count node + 1
 unfolding cell_targets_from
-few_targets node holds =
+few_names node =
     let cells = few_cells node (cell_count node - 0) 0 in
     let right = few_right (right_child node) in
-    simp length-append (omega (arith, cells, right, holds.fits, holds.within, holds.small))
+    simp length-append (omega (arith, cells, right))
+
+-- and a page has room for the pointers of its cells
+pub few_targets : (node : NodePage) → HoldsArray node → length (targets_of node) < 2 ^ 32
+few_targets node holds = omega (arith, few_names node, holds.fits, holds.within, holds.small)
