@@ -247,9 +247,16 @@ module _ {T : Type 0} (db : List ℕ) (question : Question) (contents : Option F
     later = (causes.later, later);
   }
 
--- ---- words outside the grammar
+-- ---- the words
 
--- they have one answer over all files
+-- the answer to what was read is the answer to the words
+pub told_asked : (read asked : Option Asked) (contents : Option Files) (old new : Option (List ℕ)) (r : Result (Unit {0}) Refused) → read ≡ asked
+    → IfSome contents (λ files. Answers (answer read files) old new r) → IfSome contents (λ files. Answers (answer asked files) old new r)
+told_asked read asked contents old new r same told =
+    let P : Option Asked → Type 0 = λ a. IfSome contents (λ files. Answers (answer a files) old new r) in
+    subst P same told
+
+-- words outside the grammar have one answer over all files
 usage_told : (contents : Option Files) (end : Refused) (old new : Option (List ℕ)) → Answers (answered (part_asked None) (Err Usage)) old new (Err end)
     → IfSome contents (λ files. Answers (answer None files) old new (Err end))
 usage_told None end old new answers = tt
