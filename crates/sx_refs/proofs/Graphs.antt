@@ -246,9 +246,11 @@ maps_roots (page ∷ held) = (refl, maps_roots held)
 all_roots_are : (held : List ℕ) (layout : Layout) (roots : List ℤ) → AreRoots (all_roots held layout roots)
 unfolding all_roots maps_targets
 all_roots_are held layout roots =
-    let maps = map (λ page. target page PointerMap Root 0) (filter (is_map_in layout) held) in
-    (refl, roots_append (linked layout.free_head Trunk Root) (roots_targets roots ++ maps) (linked_roots layout.free_head Trunk)
-    (roots_append (roots_targets roots) maps (schema_roots roots) (maps_roots (filter (is_map_in layout) held))))
+    let maps = map (λ page. target page PointerMap Root 0) (filter (is_map_in layout) held) in (
+      refl,
+      roots_append (linked layout.free_head Trunk Root) (roots_targets roots ++ maps) (linked_roots layout.free_head Trunk)
+          (roots_append (roots_targets roots) maps (schema_roots roots) (maps_roots (filter (is_map_in layout) held))),
+    )
 
 root_each : (targets : List Target) → AreRoots targets → All (λ one. comes_from_no_page one.source ≡ true) targets
 root_each [] are = All-nil (λ one. comes_from_no_page one.source ≡ true)

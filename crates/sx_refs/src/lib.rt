@@ -3,7 +3,12 @@
 
 mod pages;
 mod targets;
+mod walk;
 
 pub use pages::references;
 pub use sx_closure::{Pair, RefTable, Source, Target};
 pub use targets::give_targets;
+pub use walk::RefWalk;
+
+#[cfg(test)]
+mod tests;
