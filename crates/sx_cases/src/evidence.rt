@@ -2,9 +2,8 @@
 
 use crate::case::Named;
 use std::alloc::Global;
-use std::fs;
-use std::io;
 use std::rt::Files;
+use std::{fs, io};
 
 /// The files of a store, read from the folder that the program runs in.
 pub fn load_files<R: Files + AllocGlobal>(

@@ -9,8 +9,7 @@ mod evidence;
 mod outcome;
 mod reading;
 
-use std::fs;
-use std::io;
+use std::{fs, io};
 
 /// The file of the cases.
 const CASES: &str = "cases";

@@ -61,9 +61,17 @@ fn holds_with<R: Files + Print + AllocGlobal>(
         return Ok(false);
     }
     if out.taken() != text {
-        return differs(rt, case, "it prints another text");
+        return prints_another_text(rt, case, out.taken());
     }
     Ok(true)
+}
+
+// Prints what a case printed in place of its text.
+fn prints_another_text<R: Print>(rt: &R, case: &Case, taken: &[u8]) -> io::Result<bool> {
+    let name = &case.name;
+    let taken = str::from_utf8(taken).unwrap_or("bytes that are no text");
+    println!(rt; "differs: {name}: it prints\n{taken}")?;
+    Ok(false)
 }
 
 // Prints what is wrong with a case.
