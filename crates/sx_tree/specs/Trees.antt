@@ -31,7 +31,7 @@ is_held tree number = is_some (tree.view number)
 -- the child that a page names
 abbrev pub child_in : NodeTarget → List ℕ
 child_in (Child index page) = page ∷ []
-child_in (Overflow index page) = []
+child_in (Overflow index page rest) = []
 child_in (Right page) = page ∷ []
 
 -- the children among all pages that a b-tree page names, in order
