@@ -1,3 +1,4 @@
 pub mod Numbers
 pub mod Missing
 pub mod Examined
+pub mod Complete

@@ -2,6 +2,7 @@
 #![tactic(auto)]
 
 mod commands;
+mod completeness;
 mod database;
 mod evidence;
 mod examination;
@@ -11,6 +12,7 @@ mod moments;
 mod refusals;
 mod refused;
 
+pub use completeness::answers_are_complete;
 pub use examination::examine;
 pub use refused::{Refused, status};
 

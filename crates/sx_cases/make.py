@@ -1,0 +1,216 @@
+#!/usr/bin/env python3
+"""Writes the evidence of the worked cases into data/, each file byte by byte as its name and the comment here say.
+
+`data/cases` is written by hand, and so are the texts in it; nothing here computes an answer. A new piece of evidence is
+a line or two below, or a file from anywhere else.
+"""
+
+from pathlib import Path
+
+DATA = Path(__file__).resolve().parent / "data"
+
+
+def placed(*pieces, size=0):
+    """Zeros with these pieces at their places."""
+    size = max([size] + [at + len(piece) for at, piece in pieces])
+    made = bytearray(size)
+    for at, piece in pieces:
+        made[at : at + len(piece)] = bytes(piece)
+    return bytes(made)
+
+
+def changed(bytes_, *changes):
+    """The same with these bytes at these places."""
+    made = bytearray(bytes_)
+    for at, byte in changes:
+        made[at] = byte
+    return bytes(made)
+
+
+def write(name, database, wal=None, journal=None):
+    """A database, and what lies beside it."""
+    (DATA / f"{name}.db").write_bytes(database)
+    if wal is not None:
+        (DATA / f"{name}.db-wal").write_bytes(wal)
+    if journal is not None:
+        (DATA / f"{name}.db-journal").write_bytes(journal)
+
+
+# ---- databases of 512-byte pages
+
+HEADER = [(0, b"SQLite format 3\0"), (16, [2, 0, 1, 1, 0, 64, 32, 32])]
+
+# Two pages: a table `t` with the rows 1 ann 10, 2 bob 20, 3 cy NULL.
+PLAIN = placed(
+    *HEADER,
+    (27, [2, 0, 0, 0, 2]),
+    (43, [1, 0, 0, 0, 4]),
+    (59, [1]),
+    (95, [2]),
+    (100, [13, 0, 0, 0, 1, 1, 190, 0, 1, 190]),
+    (446, [64, 1, 6, 23, 15, 15, 1, 113]),
+    (454, b"tablett\x02CREATE TABLE t(a INTEGER PRIMARY KEY,b TEXT,c INT)"),
+    (512, [13, 0, 0, 0, 3, 1, 228, 0, 1, 246, 1, 236, 1, 228]),
+    (996, [6, 3, 4, 0, 17, 0, 99, 121]),
+    (1004, [8, 2, 4, 0, 19, 1, 98, 111, 98, 20]),
+    (1014, [8, 1, 4, 0, 19, 1, 97, 110, 110, 10]),
+)
+
+# One page without a table, as SQLite first writes it.
+EMPTY = placed(*HEADER, (27, [1, 0, 0, 0, 1]), (95, [1]), (100, [13, 0, 0, 0, 0, 2, 0, 0]), size=512)
+
+# The second row deleted: its cell is a freeblock.
+DELETED = changed(PLAIN, (513, 1), (514, 236), (516, 2), (523, 228), (1004, 0), (1005, 0), (1006, 0), (1007, 10))
+
+# A fourth row, 4 dee 40, in the place of the second.
+REPLACED = changed(PLAIN, (523, 228), (525, 236), (1005, 4), (1010, 100), (1011, 101), (1012, 101), (1013, 40))
+
+# Five pages: the only row of a table `u` spills to the last three.
+SPILLED = placed(
+    (0, PLAIN[:100]),
+    (31, [5]),
+    (100, [13, 0, 0, 0, 1, 1, 223, 0, 1, 223]),
+    (479, [31, 1, 6, 23, 15, 15, 1, 47]),
+    (487, b"tableuu\x02CREATE TABLE u(b)"),
+    (512, [13, 0, 0, 0, 1, 1, 210, 0, 1, 210]),
+    (978, [139, 97, 1, 3, 151, 72]),
+    (984, [85] * 36),
+    (1020, [0, 0, 0, 3, 0, 0, 0, 4]),
+    (1028, [85] * 508),
+    (1536, [0, 0, 0, 5]),
+    (1540, [85] * 508),
+    (2052, [85] * 450),
+    size=2560,
+)
+
+FIRST, ROWS = PLAIN[:512], PLAIN[512:]
+
+
+# ---- write-ahead logs
+
+
+def sums(big, carried, piece):
+    """The checksum of a log continued over a piece of whole pairs of words."""
+    one, two = carried
+    order = "big" if big else "little"
+    for at in range(0, len(piece), 8):
+        one = (one + int.from_bytes(piece[at : at + 4], order) + two) % 2**32
+        two = (two + int.from_bytes(piece[at + 4 : at + 8], order) + one) % 2**32
+    return one, two
+
+
+def words(*numbers):
+    """Numbers of 4 bytes, big-endian."""
+    return b"".join(number.to_bytes(4, "big") for number in numbers)
+
+
+def log(big, *frames, page_size=512):
+    """A log with the salts 1 and 2 and these frames: the page, the size where it ends a commit, and the image."""
+    head = words(0x377F0683 if big else 0x377F0682, 3007000, page_size, 0, 1, 2)
+    carried = sums(big, (0, 0), head)
+    made = head + words(*carried)
+    for page, size, image in frames:
+        front = words(page, size)
+        carried = sums(big, sums(big, carried, front), image)
+        made += front + words(1, 2) + words(*carried) + image
+    return made
+
+
+# ---- rollback journals
+
+
+def segment(count, nonce):
+    """The header of a segment: so many records, two pages before the transaction, sectors and pages of 512 bytes."""
+    return bytes([217, 213, 5, 249, 32, 161, 99, 215]) + words(count, nonce, 2, 512, 512)
+
+
+# Two segments: the first has page 2 of the plain database, the second its page 1 and then a record that doesn't fit.
+JOURNAL = placed(
+    (0, segment(1, 17)),
+    (512, words(2)),
+    (516, ROWS),
+    (1028, words(17)),
+    (1536, segment(2, 34)),
+    (2048, words(1)),
+    (2052, FIRST),
+    (2564, words(34)),
+    (2568, words(2)),
+    size=3088,
+)
+
+
+def headers_and_sizes():
+    write("plain", PLAIN)
+    write("empty", EMPTY)
+    write("encoding_2", changed(PLAIN, (59, 2)))
+    write("encoding_3", changed(PLAIN, (59, 3)))
+    write("encoding_4", changed(PLAIN, (59, 4)))
+    write("usable_479", changed(PLAIN, (20, 33)))
+    write("page_size_768", changed(PLAIN, (16, 3)))
+    write("no_magic_100_bytes", changed(PLAIN, (0, 0))[:100])
+    write("99_bytes", PLAIN[:99])
+    write("no_bytes", b"")
+    write("claims_9_pages", changed(PLAIN, (31, 9)))
+    write("claims_9_pages_of_another_count", changed(PLAIN, (31, 9), (95, 1)))
+    write("claims_no_size_100_bytes", changed(PLAIN, (31, 0))[:100])
+    write("claims_no_size_1023_bytes", changed(PLAIN, (31, 0))[:1023])
+    for size in (100, 511, 512, 1023):
+        write(f"{size}_bytes", PLAIN[:size])
+    write("claims_4278190082_pages", changed(PLAIN, (28, 255)))
+    write("companions_of_no_bytes", PLAIN, b"", b"")
+    write("no_magic_and_companions", changed(PLAIN, (0, 0)), b"", b"")
+    (DATA / "another.db-wal").write_bytes(b"")
+
+
+def logs():
+    for name, big in (("little", False), ("big", True)):
+        edits = log(big, (2, 2, DELETED[512:]), (2, 2, REPLACED[512:]))
+        write(f"edits_{name}", PLAIN, edits)
+        for at in (1000, 579, 31, 10):
+            write(f"edits_{name}_byte_{at}", PLAIN, changed(edits, (at, edits[at] ^ 1)))
+        for size in (0, 31, 32, 567, 568, 1103):
+            write(f"edits_{name}_cut_at_{size}", PLAIN, edits[:size])
+    write("checkpointed_whole", PLAIN, log(False, (1, 0, FIRST), (2, 2, ROWS)))
+    write("table_made", EMPTY, log(False, (1, 0, FIRST), (2, 2, ROWS)))
+    write("shrunk_and_grown", PLAIN, log(False, (1, 1, EMPTY), (1, 4, FIRST)))
+    write("checkpointed_first", PLAIN, log(False, (2, 2, ROWS), (2, 2, DELETED[512:])))
+    write("commit_of_2097153_pages", PLAIN, log(False, (2, 2097153, ROWS), (1, 0, FIRST)))
+    write("page_1_of_zeros", PLAIN, log(False, (2, 0, DELETED[512:]), (1, 2, bytes(512))))
+    write("pending", PLAIN, log(True, (2, 0, DELETED[512:]), (2, 0, ROWS), (1, 0, FIRST)))
+
+
+def journals():
+    for size in (28, 1031, 1032, 2567, 2568, 3088):
+        write(f"journal_cut_at_{size}", DELETED, journal=JOURNAL[:size])
+    for at in (600, 628):
+        write(f"journal_byte_{at}", DELETED, journal=changed(JOURNAL, (at, 1)))
+    zeroed = changed(JOURNAL, *((at, 0) for at in range(28)))
+    for size in (1032, 27, 0):
+        write(f"journal_zeroed_cut_at_{size}", DELETED, journal=zeroed[:size])
+    write("journal_of_1024_byte_pages", DELETED, journal=changed(JOURNAL, (26, 4)))
+    exchanged = JOURNAL[:2048] + JOURNAL[2568:] + JOURNAL[2048:2568]
+    write("journal_with_records_exchanged", EMPTY + DELETED[512:], journal=exchanged)
+
+
+def nodes():
+    inner = [5, 0, 0, 0, 1, 1, 251, 0, 0, 0, 0, 3, 1, 251]
+    write(
+        "inner_table",
+        placed((0, changed(FIRST, (31, 3))), (512, inner), (1019, [0, 0, 0, 3, 1]), (1024, ROWS)),
+    )
+    write("leaf_index", changed(PLAIN, (512, 10), (524, 1), (525, 0), (768, 136), (769, 16), (812, 7)))
+    inner_index = [(512, 2), (513, 1), (514, 236), (1004, 1), (1005, 246), (1006, 0), (1007, 10)]
+    write("inner_index", changed(PLAIN, *inner_index, (1014, 0), (1015, 0), (1016, 0), (1017, 4)))
+    write("payload_too_long", changed(PLAIN, (996, 136), (997, 128), (998, 128), (999, 128), (1000, 0)))
+    write("cell_outside", changed(PLAIN, (525, 255)))
+    write("bad_flag", changed(PLAIN, (512, 12)))
+    write("bad_array", changed(PLAIN, (516, 253)))
+    write("spilled", SPILLED)
+    write("largest_page", placed((0, changed(EMPTY, (16, 0), (17, 1), (105, 0))), size=65536))
+
+
+if __name__ == "__main__":
+    headers_and_sizes()
+    logs()
+    journals()
+    nodes()
