@@ -195,18 +195,33 @@ fn a_freelist_and_a_pointer_map(rt: HostRuntime) -> Result<(), Fail> {
     assert_table(&rt, alloc, &sheets, &layout(4, true, 3), &[], &want, 1)
 }
 
+/// What is said of the one page of a moment, and then of the next moment.
+fn walked<'a>(
+    rt: &impl Abort,
+    alloc: Global,
+    old: &[&'a [u8]],
+    new: &[&'a [u8]],
+) -> Result<(Said, Said), Fail> {
+    let layout = layout(1, false, 0);
+    assert!(rt; old.len() == 1);
+    assert!(rt; new.len() == 1);
+    assert!(rt; layout.page_size == 512 && layout.usable == 512);
+    let mut walk = RefWalk::start(alloc, &Sheets::new(512, old), &[1], &layout, &[])?;
+    let first = said(walk.table(), 1);
+    walk.advance(&Sheets::new(512, new), &[0], &layout, &[])?;
+    assert!(rt; walk.touched().is_none());
+    Ok((first, said(walk.table(), 1)))
+}
+
 #[test]
 fn a_walk_goes_on_with_the_pages_that_changed(rt: HostRuntime) -> Result<(), Fail> {
-    let alloc = rt.alloc();
-    let (head, leaf) = (first(&rt), page_with(&rt, 0, b"\x0d"));
-    let (before, now) = (interior(&rt, 3, 3), interior(&rt, 2, 3));
-    let layout = layout(3, false, 0);
-    let (old, new): ([&[u8]; 3], [&[u8]; 3]) = ([&head, &before, &leaf], [&head, &now, &leaf]);
-    let mut walk = RefWalk::start(alloc, &Sheets::new(512, &old), &[1, 2, 3], &layout, &[2])?;
-    assert_eq!(rt; said(walk.table(), 3), (2, None, None));
-    walk.advance(&Sheets::new(512, &new), &[1], &layout, &[2])?;
-    assert_eq!(rt; said(walk.table(), 2), (2, None, None));
-    assert_eq!(rt; said(walk.table(), 3).0, 1);
-    assert!(rt; walk.touched().is_none());
+    let leaf = first(&rt);
+    let own_child = page_with(
+        &rt,
+        100,
+        b"\x05\x00\x00\x00\x00\x00\x00\x00\x00\x00\x00\x01",
+    );
+    let said = walked(&rt, rt.alloc(), &[&own_child], &[&leaf])?;
+    assert_eq!(rt; said, ((2, None, None), ROOT));
     Ok(())
 }

@@ -1,0 +1,33 @@
+use Rattle.std.proofs.Common.{◌≡◌, ◌<◌, ap, length, refl, subst, sym, arith, [], ◌∷◌}
+use Rattle.std.specs.List.{Contains}
+use Rattle.sx_base.specs.Sheets.{sheet_view}
+use Rattle.sx_refs.specs.Walks.{Covers}
+use Rattle.sx_refs.proofs.OnePage.{one_rises, one_covers, none_other, zero_within}
+use Rattle.sx_refs.proofs.tests.walked.Goals as goal
+
+pub start-requires : goal.start-requires
+start-requires g c =
+    let same = ap length c.new.ensures.sheets in
+    let long : length c.new.result.sheets.now ≡ 1 = omega (arith, same) in
+    λ k. (
+      (refl, tt),
+      (one_rises, (one_covers c.new.result.page_size c.new.result.sheets.now long, (omega arith, (omega arith, (omega arith, omega arith))))),
+    )
+
+pub advance-requires : goal.advance-requires
+advance-requires g c =
+    let same = ap length c.new-2.ensures.sheets in
+    let long : length c.new-2.result.sheets.now ≡ 1 = omega (arith, same) in
+    let numbers : c.in_ok-walk.walk.numbers ≡ 1 ∷ [] = c.in_ok-walk.ensures.numbers in
+    let one : length c.in_ok-walk.walk.numbers ≡ 1 = ap length numbers in
+    let view = sheet_view c.new-2.result.page_size c.new-2.result.sheets.now in
+    λ k. (
+      (refl, tt),
+      (
+        subst (λ all. Covers all view) (sym numbers) (one_covers c.new-2.result.page_size c.new-2.result.sheets.now long),
+        (
+          zero_within c.in_ok-walk.walk.numbers one,
+          (λ rank within other. none_other rank (omega (arith, one, within)) other, (omega arith, (omega arith, (omega arith, omega arith)))),
+        ),
+      ),
+    )
