@@ -8,3 +8,4 @@ pub mod HeldAt
 pub mod Moments
 pub mod Uncertain
 pub mod Lie
+pub mod Turned

@@ -4,3 +4,4 @@ pub mod Marks
 pub mod Heads
 pub mod Firsts
 pub mod Parts
+pub mod Turns

@@ -1,13 +1,14 @@
 -- What a case keeps beside the evidence, so that a question takes no search of it.
 use Rattle.std.specs.Prelude.{◌≡◌, ℕ, ◌+◌, ◌^◌, ◌<◌, ◌≤◌, ◌==◌, Bool, not, ◌&&◌, nat_lt, nat_le, min, if◌then◌else◌, slice_index, List, [], ◌∷◌, ◌++◌, length, Option, None, Some, is_some, is_none}
 use Rattle.std.specs.List.{list_any, range_with_len}
+use Rattle.std.specs.List.Sorted.{IsStrictlyIncreasing}
 use Rattle.sx_chain.specs.Newest.{has_number}
 use Rattle.sx_base.specs.declared.moment.Moment.{Moment}
 use Rattle.sx_base.specs.declared.moment.Moment.TheVariants.{Journal as JournalMoment}
 use Rattle.sx_header.specs.Header.{HasRanges}
 use Rattle.sx_header.specs.declared.header.Header.{Header}
-use Rattle.sx_wal.specs.Wal.{Wal}
-use Rattle.sx_journal.specs.Journal.{Journal}
+use Rattle.sx_wal.specs.Wal.{Wal, wal_of}
+use Rattle.sx_journal.specs.Journal.{Journal, journal_of}
 use Rattle.sx_moment.specs.Gathered.{Gathered, bytes_in, slot_at, entry_at, page_count, size_at, limit_at}
 use Rattle.sx_base.specs.Places.{first_place}
 use Rattle.sx_moment.specs.Views.{slot_pages, is_good_record, lock_in, image_at}
@@ -32,6 +33,9 @@ pub record IsGathered (case : Gathered) : Type 0 where
   pub few_slots : length case.wal.slots < 2 ^ 31
   pub few_commits : length case.wal.commits ≤ length case.wal.slots
   pub commits : (k : ℕ) → k < length case.wal.commits → slice_index case.wal.commits k < length case.wal.slots
+  pub rising : IsStrictlyIncreasing case.wal.commits
+  pub wal_is : case.wal ≡ wal_of case.wal_bytes case.header.page_size
+  pub journal_is : case.journal ≡ journal_of case.journal_bytes case.header.page_size
 
 -- the evidence of these files, read as these
 abbrev pub gathered_by : Header → List ℕ → Option (List ℕ) → Option (List ℕ) → Wal → Journal → Gathered

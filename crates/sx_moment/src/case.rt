@@ -1,10 +1,13 @@
 //! A case: the evidence with its moments.
-ghost use Rattle.std.specs.Prelude.{◌≡◌, ℕ, ◌+◌, ◌^◌, ◌<◌, ◌≤◌, ◌++◌, if◌then◌else◌, IsTrue, List, None, Some, length, find, nat_lt, min, map, slice_get, slice_index, option_copied, IfOk, IfSome};
+ghost use Rattle.std.specs.Prelude.{◌≡◌, ◌↔◌, Contains, ℕ, ◌+◌, ◌^◌, ◌<◌, ◌≤◌, ◌++◌, if◌then◌else◌, IsTrue, List, None, Some, length, find, nat_lt, min, map, slice_get, slice_index, option_copied, IfOk, IfSome};
 ghost use Rattle.std.specs.List.{last_or};
 ghost use Rattle.std.specs.Option.{option_map};
 ghost use Rattle.sx_base.specs.Held.{held_pages, held_after};
 ghost use Rattle.sx_base.specs.declared.evidence.Place.{Place};
+ghost use Rattle.sx_base.specs.declared.moment.Moment.{Moment};
 ghost use Rattle.sx_header.specs.Header.{HasRanges, header_of};
+ghost use Rattle.sx_wal.specs.Wal.{wal_of};
+ghost use Rattle.sx_journal.specs.Journal.{journal_of};
 ghost use Rattle.sx_moment.specs.Heads.{accepted, head_of, layout_of, encoding_at, FitsPages, IsLayout};
 ghost use Rattle.sx_moment.specs.Gathered.{gathered, page_count, size_at, limit_at, is_live, is_moment, moments_of};
 ghost use Rattle.sx_moment.specs.Views.{slot_pages, image_at, origin_of, view_of, source_of, bytes_of, place_of, bytes_from, IsWhole};
@@ -33,7 +36,7 @@ use sx_wal::WalIndex;
 /// The evidence of a database, gathered once, so that each question about a moment takes no search of it.
 #[derive(Drop)]
 pub struct Case<'a> {
-    sources: Sources<'a>,
+    pub(crate) sources: Sources<'a>,
     frames: Chains,
     past: FirstImages,
     marks: FirstImages,
@@ -104,16 +107,26 @@ impl<'a> Case<'a> {
 
     /// The write-ahead log: its state, slots and commits.
     pub fn wal(&self) -> &WalIndex
-        ensures { result.now ≡ self.now.wal }
+        ensures wal { result.now ≡ self.now.wal }
+        ensures read { self.now.wal ≡ wal_of self.now.wal_bytes self.now.header.page_size }
     {
         self.sources.wal()
     }
 
     /// The rollback journal: its state, segments and records.
     pub fn journal(&self) -> &JournalIndex
-        ensures { result.now ≡ self.now.journal }
+        ensures journal { result.now ≡ self.now.journal }
+        ensures read { self.now.journal ≡ journal_of self.now.journal_bytes self.now.header.page_size }
     {
         self.sources.journal()
+    }
+
+    /// The moments of the list are those that [`Case::snapshot`] accepts, and no others. This is a law of the definitions;
+    /// the function has no code.
+    pub fn moments_listed(&self)
+        ensures { (moment : Moment) → IsTrue (is_moment self.now moment) ↔ Contains (moments_of self.now) moment }
+    {
+        let _sources = &self.sources;
     }
 
     /// How many moments the evidence holds.

@@ -12,6 +12,7 @@ mod origin;
 mod pages;
 mod snapshot;
 mod sources;
+mod turns;
 
 pub use case::Case;
 pub use evidence::Evidence;
