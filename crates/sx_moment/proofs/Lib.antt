@@ -9,3 +9,5 @@ pub mod Moments
 pub mod Uncertain
 pub mod Lie
 pub mod Turned
+pub mod Seen
+pub mod Counted

@@ -45,7 +45,7 @@ stay_case case k number low high false is order before now none =
     ap (λ m. option_map origins.Slot (last_place p m)) (now ∙ sym whole)
     ∙ ap (option_map origins.Slot) (last_kept p low (high - low) none ∙ ap (last_place p) (sym before))
 
-order_case : (case : Gathered) (k : ℕ) (first : Bool) → IsGathered case → 1 ≤ k → k ≤ length case.wal.commits → (k == 1) ≡ first
+pub order_case : (case : Gathered) (k : ℕ) (first : Bool) → IsGathered case → 1 ≤ k → k ≤ length case.wal.commits → (k == 1) ≡ first
     → limit_at case (cond first File (Commit (k - 1))) ≤ limit_at case (Commit k)
 order_case case k true gathered positive within is = omega arith
 order_case case k false gathered positive within is =

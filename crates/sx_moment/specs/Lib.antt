@@ -5,3 +5,5 @@ pub mod Heads
 pub mod Firsts
 pub mod Parts
 pub mod Turns
+pub mod Counts
+pub mod Kept

@@ -13,7 +13,7 @@ use Rattle.sx_moment.specs.Gathered.{Gathered, bytes_in, slot_at, entry_at, page
 use Rattle.sx_base.specs.Places.{first_place}
 use Rattle.sx_moment.specs.Views.{slot_pages, is_good_record, lock_in, image_at}
 use Rattle.sx_moment.specs.Marks.{is_same}
-use Rattle.sx_moment.specs.Firsts.{Rises, first_in, file_pages}
+use Rattle.sx_moment.specs.Firsts.{file_pages}
 use Rattle.sx_moment.specs.declared.origin.Origin.{Origin}
 use Rattle.sx_moment.specs.declared.origin.Origin.TheVariants.{Database, Slot, Record}
 use Rattle.sx_moment.specs.declared.first_image.FirstImage.{FirstImage}
@@ -76,19 +76,6 @@ is_marked case number =
 -- the pages that some Committed slot equals, with the first slot of each
 abbrev pub marked_only : Gathered → ℕ → Option ℕ
 marked_only case number = if is_marked case number then first_slot case number else None
-
--- the parts of a case: the slots' pages, the pages past the file that slots and Good records hold, the marked pages, and
--- the first Good record of each page
-pub record IsCase (case : Gathered) (frames : List ℕ) (past marks past_records : List FirstImage) (records : ℕ → Option ℕ) : Type 0 where
-  pub gathered : IsGathered case
-  pub slots_are : frames ≡ slot_pages case
-  pub past_rise : Rises 1 past
-  pub past_are : (number : ℕ) → first_in past number ≡ past_only case (first_slot case) number
-  pub marks_rise : Rises 1 marks
-  pub marks_are : (number : ℕ) → first_in marks number ≡ marked_only case number
-  pub past_records_rise : Rises 1 past_records
-  pub past_records_are : (number : ℕ) → first_in past_records number ≡ past_only case (first_record case) number
-  pub records_are : (number : ℕ) → records number ≡ first_record case number
 
 -- what stands for a page once image i of another was noted, where it counts
 abbrev pub noted : Bool → ℕ → ℕ → Option ℕ → ℕ → Option ℕ

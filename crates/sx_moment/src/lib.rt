@@ -2,6 +2,7 @@
 #![tactic(auto)]
 
 mod case;
+mod counts;
 mod evidence;
 mod file_pages;
 mod first_image;

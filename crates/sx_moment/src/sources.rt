@@ -4,6 +4,8 @@ ghost use Rattle.sx_moment.specs.Gathered.{gathered, bytes_in, slot_at, entry_at
 ghost use Rattle.sx_moment.specs.Views.{lock_in, place_of, bytes_of, is_good_record, slot_pages};
 ghost use Rattle.sx_moment.specs.Parts.{IsGathered, IsSmall, is_in_file};
 ghost use Rattle.sx_moment.specs.Marks.{is_committed, is_same};
+ghost use Rattle.sx_moment.specs.Turns.{moment_before};
+ghost use Rattle.sx_base.specs.declared.moment.Moment.TheVariants.{Commit};
 ghost use Rattle.sx_header.specs.Header.{HasRanges};
 ghost use Rattle.sx_wal.specs.Wal.{wal_of};
 ghost use Rattle.sx_journal.specs.Journal.{journal_of};
@@ -194,10 +196,26 @@ impl<'a> Sources<'a> {
         requires { IsTrue (is_moment self.now moment) }
         ensures value { result ≡ limit_at self.now moment }
         ensures within { result ≤ length self.now.wal.slots }
+        ensures few { result < 2 ^ 31 }
     {
         match moment {
             Moment::Commit(k) => self.wal.commit(k) + 1,
             _ => 0,
+        }
+    }
+
+    /// How many slots stand up to the moment before a commit, which sees no more.
+    pub fn limit_before(&self, k: u32) -> u32
+        requires first { 1 ≤ k }
+        requires last { k ≤ length self.now.wal.commits }
+        ensures value { result ≡ limit_at self.now (moment_before k) }
+        ensures order { result ≤ limit_at self.now (Commit k) }
+    {
+        let _ = &self.header;
+        if k == 1 {
+            0
+        } else {
+            self.limit(Moment::Commit(k - 1))
         }
     }
 

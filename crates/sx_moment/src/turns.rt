@@ -2,7 +2,7 @@
 ghost use Rattle.std.specs.Prelude.{◌≡◌, ℕ, ◌-◌, ◌≤◌, false, length, map, IfOk};
 ghost use Rattle.std.specs.List.{range_with_len};
 ghost use Rattle.sx_base.specs.declared.moment.Moment.TheVariants.{Commit};
-ghost use Rattle.sx_moment.specs.Gathered.{slot_at, limit_at, size_at};
+ghost use Rattle.sx_moment.specs.Gathered.{slot_at, size_at};
 ghost use Rattle.sx_moment.specs.Views.{origin_of};
 ghost use Rattle.sx_moment.specs.Turns.{moment_before, frame_pages, is_among, AreTurned};
 
@@ -47,23 +47,9 @@ impl<'a> Case<'a> {
         requires last { k ≤ length self.now.wal.commits }
         ensures { IfOk result (λ pages. pages.items ≡ frame_pages self.now k) }
     {
-        let from = self.limit_before(k);
+        let from = self.sources.limit_before(k);
         let end = self.sources.limit(Moment::Commit(k));
         slot_numbers(alloc, &self.sources, from, end)
-    }
-
-    // How many slots stand up to the moment before a commit.
-    fn limit_before(&self, k: u32) -> u32
-        requires first { 1 ≤ k }
-        requires last { k ≤ length self.now.wal.commits }
-        ensures value { result ≡ limit_at self.now (moment_before k) }
-        ensures order { result ≤ limit_at self.now (Commit k) }
-    {
-        if k == 1 {
-            0
-        } else {
-            self.sources.limit(Moment::Commit(k - 1))
-        }
     }
 }
 
