@@ -8,3 +8,6 @@ pub mod HeldAt
 pub mod Moments
 pub mod Uncertain
 pub mod Lie
+pub mod Turned
+pub mod Seen
+pub mod Counted

@@ -1,6 +1,7 @@
 -- What the log and the journal were read as fits their files.
 use Rattle.std.proofs.Common.{◌≡◌, ℕ, ◌+◌, ◌-◌, ◌*◌, ◌<◌, ◌≤◌, ◌^◌, List, Option, Some, None, length, arith, inl, inr, mul-le-mul_left}
 use Rattle.std.specs.Prelude.{slice_get, slice_index, slice_index_or, All}
+use Rattle.std.specs.List.Sorted.{IsStrictlyIncreasing}
 use Rattle.std.proofs.lemmas.Bool.{cases_lt}
 use Rattle.std.proofs.lemmas.Option.{slice_get-get_or}
 use Rattle.sx_header.specs.declared.header.Header.{Header}
@@ -52,6 +53,13 @@ unfolding journal_of
 entries_fit page_size None law i below = absurd (omega arith)
 entries_fit page_size (Some bytes) law i below = let fits = law bytes page_size i no_entry below in omega (arith, fits)
 
+-- the commits of a log that may be absent rise
+pub commits_rise : (page_size : ℕ) (wal : Option (List ℕ)) → ((page_size : ℕ) (bytes : List ℕ) → IsStrictlyIncreasing (log_of page_size bytes).commits)
+    → IsStrictlyIncreasing (wal_of wal page_size).commits
+unfolding wal_of
+commits_rise page_size None law k below = absurd (omega arith)
+commits_rise page_size (Some bytes) law k below = law page_size bytes k below
+
 -- evidence that was read is as it should be
 pub gathered_is : (header : Header) (database : List ℕ) (wal_bytes journal_bytes : Option (List ℕ)) (wal : Wal) (journal : Journal)
     → ((page_size : ℕ) (bytes : List ℕ) (i : ℕ) (slot : Slot) → slice_get (log_of page_size bytes).slots i ≡ Some slot → IsFrame page_size bytes i slot)
@@ -59,8 +67,9 @@ pub gathered_is : (header : Header) (database : List ℕ) (wal_bytes journal_byt
     → HasRanges header → IsSmall database wal_bytes journal_bytes
     → wal ≡ wal_of wal_bytes header.page_size → journal ≡ journal_of journal_bytes header.page_size → length wal.commits ≤ length wal.slots
     → ((k : ℕ) → k < length wal.commits → slice_index wal.commits k < length wal.slots)
+    → IsStrictlyIncreasing wal.commits
     → IsGathered (gathered_by header database wal_bytes journal_bytes wal journal)
-gathered_is header database wal_bytes journal_bytes wal journal slot_law entry_law ranges small wal_is journal_is fewer commits_within = record {
+gathered_is header database wal_bytes journal_bytes wal journal slot_law entry_law ranges small wal_is journal_is fewer commits_within rising = record {
   ranges = ranges;
   small = small;
   slots = rw wal_is (slots_fit header.page_size wal_bytes slot_law);
@@ -68,4 +77,7 @@ gathered_is header database wal_bytes journal_bytes wal journal slot_law entry_l
   few_slots = rw wal_is (slots_few header.page_size wal_bytes slot_law ranges.page_size.least small.wal_small);
   few_commits = fewer;
   commits = commits_within;
+  rising = rising;
+  wal_is = wal_is;
+  journal_is = journal_is;
 }

@@ -4,3 +4,6 @@ pub mod Marks
 pub mod Heads
 pub mod Firsts
 pub mod Parts
+pub mod Turns
+pub mod Counts
+pub mod Kept

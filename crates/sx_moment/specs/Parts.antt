@@ -1,18 +1,19 @@
 -- What a case keeps beside the evidence, so that a question takes no search of it.
 use Rattle.std.specs.Prelude.{◌≡◌, ℕ, ◌+◌, ◌^◌, ◌<◌, ◌≤◌, ◌==◌, Bool, not, ◌&&◌, nat_lt, nat_le, min, if◌then◌else◌, slice_index, List, [], ◌∷◌, ◌++◌, length, Option, None, Some, is_some, is_none}
 use Rattle.std.specs.List.{list_any, range_with_len}
+use Rattle.std.specs.List.Sorted.{IsStrictlyIncreasing}
 use Rattle.sx_chain.specs.Newest.{has_number}
 use Rattle.sx_base.specs.declared.moment.Moment.{Moment}
 use Rattle.sx_base.specs.declared.moment.Moment.TheVariants.{Journal as JournalMoment}
 use Rattle.sx_header.specs.Header.{HasRanges}
 use Rattle.sx_header.specs.declared.header.Header.{Header}
-use Rattle.sx_wal.specs.Wal.{Wal}
-use Rattle.sx_journal.specs.Journal.{Journal}
+use Rattle.sx_wal.specs.Wal.{Wal, wal_of}
+use Rattle.sx_journal.specs.Journal.{Journal, journal_of}
 use Rattle.sx_moment.specs.Gathered.{Gathered, bytes_in, slot_at, entry_at, page_count, size_at, limit_at}
 use Rattle.sx_base.specs.Places.{first_place}
 use Rattle.sx_moment.specs.Views.{slot_pages, is_good_record, lock_in, image_at}
 use Rattle.sx_moment.specs.Marks.{is_same}
-use Rattle.sx_moment.specs.Firsts.{Rises, first_in, file_pages}
+use Rattle.sx_moment.specs.Firsts.{file_pages}
 use Rattle.sx_moment.specs.declared.origin.Origin.{Origin}
 use Rattle.sx_moment.specs.declared.origin.Origin.TheVariants.{Database, Slot, Record}
 use Rattle.sx_moment.specs.declared.first_image.FirstImage.{FirstImage}
@@ -32,6 +33,9 @@ pub record IsGathered (case : Gathered) : Type 0 where
   pub few_slots : length case.wal.slots < 2 ^ 31
   pub few_commits : length case.wal.commits ≤ length case.wal.slots
   pub commits : (k : ℕ) → k < length case.wal.commits → slice_index case.wal.commits k < length case.wal.slots
+  pub rising : IsStrictlyIncreasing case.wal.commits
+  pub wal_is : case.wal ≡ wal_of case.wal_bytes case.header.page_size
+  pub journal_is : case.journal ≡ journal_of case.journal_bytes case.header.page_size
 
 -- the evidence of these files, read as these
 abbrev pub gathered_by : Header → List ℕ → Option (List ℕ) → Option (List ℕ) → Wal → Journal → Gathered
@@ -72,19 +76,6 @@ is_marked case number =
 -- the pages that some Committed slot equals, with the first slot of each
 abbrev pub marked_only : Gathered → ℕ → Option ℕ
 marked_only case number = if is_marked case number then first_slot case number else None
-
--- the parts of a case: the slots' pages, the pages past the file that slots and Good records hold, the marked pages, and
--- the first Good record of each page
-pub record IsCase (case : Gathered) (frames : List ℕ) (past marks past_records : List FirstImage) (records : ℕ → Option ℕ) : Type 0 where
-  pub gathered : IsGathered case
-  pub slots_are : frames ≡ slot_pages case
-  pub past_rise : Rises 1 past
-  pub past_are : (number : ℕ) → first_in past number ≡ past_only case (first_slot case) number
-  pub marks_rise : Rises 1 marks
-  pub marks_are : (number : ℕ) → first_in marks number ≡ marked_only case number
-  pub past_records_rise : Rises 1 past_records
-  pub past_records_are : (number : ℕ) → first_in past_records number ≡ past_only case (first_record case) number
-  pub records_are : (number : ℕ) → records number ≡ first_record case number
 
 -- what stands for a page once image i of another was noted, where it counts
 abbrev pub noted : Bool → ℕ → ℕ → Option ℕ → ℕ → Option ℕ

@@ -1,10 +1,13 @@
 //! A case: the evidence with its moments.
-ghost use Rattle.std.specs.Prelude.{◌≡◌, ℕ, ◌+◌, ◌^◌, ◌<◌, ◌≤◌, ◌++◌, if◌then◌else◌, IsTrue, List, None, Some, length, find, nat_lt, min, map, slice_get, slice_index, option_copied, IfOk, IfSome};
+ghost use Rattle.std.specs.Prelude.{◌≡◌, ◌↔◌, Contains, ℕ, ◌+◌, ◌^◌, ◌<◌, ◌≤◌, ◌++◌, if◌then◌else◌, IsTrue, List, None, Some, length, find, nat_lt, min, map, slice_get, slice_index, option_copied, IfOk, IfSome};
 ghost use Rattle.std.specs.List.{last_or};
 ghost use Rattle.std.specs.Option.{option_map};
 ghost use Rattle.sx_base.specs.Held.{held_pages, held_after};
 ghost use Rattle.sx_base.specs.declared.evidence.Place.{Place};
+ghost use Rattle.sx_base.specs.declared.moment.Moment.{Moment};
 ghost use Rattle.sx_header.specs.Header.{HasRanges, header_of};
+ghost use Rattle.sx_wal.specs.Wal.{wal_of};
+ghost use Rattle.sx_journal.specs.Journal.{journal_of};
 ghost use Rattle.sx_moment.specs.Heads.{accepted, head_of, layout_of, encoding_at, FitsPages, IsLayout};
 ghost use Rattle.sx_moment.specs.Gathered.{gathered, page_count, size_at, limit_at, is_live, is_moment, moments_of};
 ghost use Rattle.sx_moment.specs.Views.{slot_pages, image_at, origin_of, view_of, source_of, bytes_of, place_of, bytes_from, IsWhole};
@@ -12,6 +15,7 @@ ghost use Rattle.sx_moment.specs.Marks.{is_uncertain, uncertain_pages};
 ghost use Rattle.sx_moment.specs.Firsts.{Rises, first_in, is_taken};
 ghost use Rattle.sx_moment.specs.Parts.{IsSmall, past_only, Stands, first_slot, first_at, bound_at, is_bare, file_pages_at};
 
+use crate::counts::counts_at_commits;
 use crate::evidence::Evidence;
 use crate::file_pages::{count_pages, page_after, page_at};
 use crate::first_image::FirstImage;
@@ -33,25 +37,27 @@ use sx_wal::WalIndex;
 /// The evidence of a database, gathered once, so that each question about a moment takes no search of it.
 #[derive(Drop)]
 pub struct Case<'a> {
-    sources: Sources<'a>,
+    pub(crate) sources: Sources<'a>,
     frames: Chains,
     past: FirstImages,
     marks: FirstImages,
     past_records: FirstImages,
     records: BTreeMap<u32, u32>,
+    past_counts: Vec<u32>,
+    mark_counts: Vec<u32>,
 }
 
 impl<'a> Model for Case<'a> {
     ghost use Rattle.std.specs.Ordering.{nat_cmp};
     ghost use Rattle.std.specs.BTreeMap.{get};
     ghost use Rattle.sx_moment.specs.Gathered.{Gathered};
-    ghost use Rattle.sx_moment.specs.Parts.{IsCase};
+    ghost use Rattle.sx_moment.specs.Kept.{IsCase};
 
     ghost Value = { Gathered };
 
     ghost view = { λ case. case.sources };
 
-    ghost invariant = { λ case. IsCase case.sources case.frames case.past case.marks case.past_records (get nat_cmp case.records) };
+    ghost invariant = { λ case. IsCase case.sources case.frames case.past case.marks case.past_records (get nat_cmp case.records) case.past_counts.items case.mark_counts.items };
 }
 
 impl<'a> Case<'a> {
@@ -59,7 +65,7 @@ impl<'a> Case<'a> {
     ///
     /// The log and the journal are read once. Each Committed slot is compared at most once with the page of the file.
     /// The cost is in proportion to the bytes of the log and the journal, with some look-ups for each slot and record;
-    /// nothing is kept for each moment. It answers `AllocError` where memory runs out, and nothing else. Each file has
+    /// two counts are kept for each commit. It answers `AllocError` where memory runs out, and nothing else. Each file has
     /// fewer than 4,294,967,296 bytes, and `header` is what `read_header` gives for the database.
     pub fn gather(alloc: Global, header: Header, evidence: Evidence<'a>) -> Result<Self, AllocError>
         requires header { HasRanges header }
@@ -70,10 +76,14 @@ impl<'a> Case<'a> {
         let sources = Sources::read(alloc, header, evidence)?;
         let slots = first_slots(alloc, &sources)?;
         let same = same_pages(alloc, &sources)?;
-        let records = first_records(alloc, &sources)?;
-        let past = past_images(alloc, &slots, &sources)?;
         let marks = marked_images(alloc, &slots, &same)?;
+        drop(same);
+        let past = past_images(alloc, &slots, &sources)?;
+        drop(slots);
+        let records = first_records(alloc, &sources)?;
         let past_records = past_images(alloc, &records, &sources)?;
+        let past_counts = counts_at_commits(alloc, &sources, &past)?;
+        let mark_counts = counts_at_commits(alloc, &sources, &marks)?;
         let frames = chain_slots(alloc, &sources)?;
         Ok(Case {
             sources,
@@ -82,6 +92,8 @@ impl<'a> Case<'a> {
             marks,
             past_records,
             records,
+            past_counts,
+            mark_counts,
         })
     }
 
@@ -104,16 +116,26 @@ impl<'a> Case<'a> {
 
     /// The write-ahead log: its state, slots and commits.
     pub fn wal(&self) -> &WalIndex
-        ensures { result.now ≡ self.now.wal }
+        ensures wal { result.now ≡ self.now.wal }
+        ensures read { self.now.wal ≡ wal_of self.now.wal_bytes self.now.header.page_size }
     {
         self.sources.wal()
     }
 
     /// The rollback journal: its state, segments and records.
     pub fn journal(&self) -> &JournalIndex
-        ensures { result.now ≡ self.now.journal }
+        ensures journal { result.now ≡ self.now.journal }
+        ensures read { self.now.journal ≡ journal_of self.now.journal_bytes self.now.header.page_size }
     {
         self.sources.journal()
+    }
+
+    /// The moments of the list are those that [`Case::snapshot`] accepts, and no others. This is a law of the definitions;
+    /// the function has no code.
+    pub fn moments_listed(&self)
+        ensures { (moment : Moment) → IsTrue (is_moment self.now moment) ↔ Contains (moments_of self.now) moment }
+    {
+        let _sources = &self.sources;
     }
 
     /// How many moments the evidence holds.
@@ -331,10 +353,21 @@ impl<'a> Case<'a> {
         requires { IsTrue (is_moment self.now moment) }
         ensures { result ≡ length (held_pages (size_at self.now moment) (view_of self.now moment)) }
     {
-        let file = self.file_held(moment);
-        file + self
-            .past(moment)
-            .count_taken(self.bound(moment), self.size(moment))
+        let size = self.size(moment);
+        self.file_held(moment) + self.past_held(moment, size)
+    }
+
+    // How many pages past the end of the file have a view at a moment.
+    fn past_held(&self, moment: Moment, size: u32) -> u32
+        requires listed { IsTrue (is_moment self.now moment) }
+        requires size { size ≡ size_at self.now moment }
+        ensures { length (file_pages_at self.now moment) + result ≡ length (held_pages (size_at self.now moment) (view_of self.now moment)) }
+    {
+        match moment {
+            Moment::Journal => self.past_records.count_taken(self.sources.entries(), size),
+            Moment::File => 0,
+            Moment::Commit(k) => self.past_counts[k as usize - 1],
+        }
     }
 
     /// The page at a place among them, in rising order from 0.
@@ -402,6 +435,20 @@ impl<'a> Case<'a> {
 
     /// How many views are uncertain at a moment.
     pub(crate) fn uncertain_count(&self, moment: Moment) -> u32
+        requires { IsTrue (is_moment self.now moment) }
+        ensures { result ≡ length (uncertain_pages self.now moment) }
+    {
+        match moment {
+            Moment::Journal => self.count_bare(moment),
+            Moment::File => self.marks.within(self.sources.size(moment)),
+            Moment::Commit(k) => {
+                self.marks.within(self.sources.size(moment)) - self.mark_counts[k as usize - 1]
+            }
+        }
+    }
+
+    // How many views are uncertain at a moment, mark by mark.
+    fn count_bare(&self, moment: Moment) -> u32
         requires { IsTrue (is_moment self.now moment) }
         ensures { result ≡ length (uncertain_pages self.now moment) }
     {

@@ -1,6 +1,7 @@
 //! Lists of pages that are asked by their number.
-ghost use Rattle.std.specs.Prelude.{◌≡◌, ℕ, ◌<◌, ◌≤◌, ◌^◌, length, find, nat_lt, slice_get, slice_index, Some};
+ghost use Rattle.std.specs.Prelude.{◌≡◌, ◌≢◌, ℕ, ◌<◌, ◌≤◌, ◌^◌, length, find, nat_lt, slice_get, slice_index, slice_index_or, Some, IfSome, IfNone};
 ghost use Rattle.sx_moment.specs.Firsts.{Rises, first_in, below, is_taken, taken, IsSearched, IsSearchedAbove};
+ghost use Rattle.sx_moment.specs.declared.first_image.FirstImage.{FirstImage as Image};
 
 use crate::first_image::FirstImage;
 use std::marker::Model;
@@ -34,7 +35,8 @@ impl FirstImages {
 
     /// How many pages there are.
     pub fn len(&self) -> usize
-        ensures { result ≡ length self.now }
+        ensures value { result ≡ length self.now }
+        ensures few { result < 2 ^ 63 }
     {
         self.items.len()
     }
@@ -61,6 +63,31 @@ impl FirstImages {
         } else {
             None
         }
+    }
+
+    /// The place of a page with this first image. The cost is that of a binary search.
+    pub fn place(&self, image: FirstImage) -> Option<usize>
+        ensures rise { Rises 1 self.now }
+        ensures some { IfSome result (λ place. slice_get self.now place ≡ Some image) }
+        ensures none { IfNone result ((k : ℕ) → (d : Image) → k < length self.now → slice_index_or self.now k d ≢ image) }
+    {
+        let place = place_of(&self.items, image.page);
+        if place == self.items.len() {
+            return None;
+        }
+        if self.items[place] == image {
+            Some(place)
+        } else {
+            None
+        }
+    }
+
+    /// How many of the pages lie within a size: they are the first of the list. The cost is that of a binary search.
+    pub fn within(&self, size: u32) -> u32
+        ensures bound { result ≤ length self.now }
+        ensures searched { IsSearchedAbove size self.now result }
+    {
+        place_above(&self.items, size) as u32
     }
 
     /// How many of the pages lie within a size and have their first image below a bound.

@@ -2,6 +2,7 @@
 #![tactic(auto)]
 
 mod case;
+mod counts;
 mod evidence;
 mod file_pages;
 mod first_image;
@@ -12,6 +13,7 @@ mod origin;
 mod pages;
 mod snapshot;
 mod sources;
+mod turns;
 
 pub use case::Case;
 pub use evidence::Evidence;

@@ -15,8 +15,8 @@ use sx_header::Header;
 impl<'a> Case<'a> {
     /// The pages at a moment, and `None` exactly where the evidence doesn't hold that moment.
     ///
-    /// The held pages are counted here. That costs at most a step for each page past the end of the file that the log or
-    /// the journal holds.
+    /// The held pages were counted for all commits when the case was gathered. At the journal's moment they are counted here,
+    /// at a step for each page past the end of the file that a Good record holds.
     pub fn snapshot(&self, moment: Moment) -> Option<Snapshot<'_, 'a>>
         ensures some { IfSome result (λ snapshot. (snapshot.case.now ≡ self.now) × (snapshot.moment ≡ moment)) }
         ensures none { is_some result ≡ is_moment self.now moment }
@@ -92,7 +92,8 @@ impl<'c, 'a> Snapshot<'c, 'a> {
         self.case.uncertain(self.moment, no)
     }
 
-    /// How many views are uncertain. The cost is at most the number of pages that a Committed frame equals.
+    /// How many views are uncertain: at a commit and at the file's moment a look-up, at the journal's at most a step for each
+    /// page that a Committed frame equals.
     pub fn uncertain_count(&self) -> u32
         ensures { result ≡ length (uncertain_pages self.now.case.now self.now.moment) }
     {

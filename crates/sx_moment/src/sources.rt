@@ -4,7 +4,11 @@ ghost use Rattle.sx_moment.specs.Gathered.{gathered, bytes_in, slot_at, entry_at
 ghost use Rattle.sx_moment.specs.Views.{lock_in, place_of, bytes_of, is_good_record, slot_pages};
 ghost use Rattle.sx_moment.specs.Parts.{IsGathered, IsSmall, is_in_file};
 ghost use Rattle.sx_moment.specs.Marks.{is_committed, is_same};
+ghost use Rattle.sx_moment.specs.Turns.{moment_before};
+ghost use Rattle.sx_base.specs.declared.moment.Moment.TheVariants.{Commit};
 ghost use Rattle.sx_header.specs.Header.{HasRanges};
+ghost use Rattle.sx_wal.specs.Wal.{wal_of};
+ghost use Rattle.sx_journal.specs.Journal.{journal_of};
 
 use crate::evidence::Evidence;
 use crate::origin::Origin;
@@ -13,7 +17,7 @@ use std::marker::Model;
 use sx_base::{Class, Moment, Part, Place, lock_page};
 use sx_header::Header;
 use sx_journal::{Entry, JournalIndex, JournalState, entries_lie_in_file, read_journal};
-use sx_wal::{Slot, WalIndex, read_wal, slots_stand};
+use sx_wal::{Slot, WalIndex, commits_stand, read_wal, slots_stand};
 
 /// The evidence, its database's header, and what its log and its journal were read as.
 #[derive(Drop)]
@@ -47,6 +51,7 @@ impl<'a> Sources<'a> {
         let wal = read_wal(alloc, evidence.wal, header.page_size)?;
         let journal = read_journal(alloc, evidence.journal, header.page_size)?;
         slots_stand();
+        commits_stand();
         entries_lie_in_file();
         Ok(Sources {
             header,
@@ -75,14 +80,16 @@ impl<'a> Sources<'a> {
 
     /// What the log was read as.
     pub fn wal(&self) -> &WalIndex
-        ensures { result.now ≡ self.now.wal }
+        ensures wal { result.now ≡ self.now.wal }
+        ensures read { self.now.wal ≡ wal_of self.now.wal_bytes self.now.header.page_size }
     {
         &self.wal
     }
 
     /// What the journal was read as.
     pub fn journal(&self) -> &JournalIndex
-        ensures { result.now ≡ self.now.journal }
+        ensures journal { result.now ≡ self.now.journal }
+        ensures read { self.now.journal ≡ journal_of self.now.journal_bytes self.now.header.page_size }
     {
         &self.journal
     }
@@ -189,10 +196,26 @@ impl<'a> Sources<'a> {
         requires { IsTrue (is_moment self.now moment) }
         ensures value { result ≡ limit_at self.now moment }
         ensures within { result ≤ length self.now.wal.slots }
+        ensures few { result < 2 ^ 31 }
     {
         match moment {
             Moment::Commit(k) => self.wal.commit(k) + 1,
             _ => 0,
+        }
+    }
+
+    /// How many slots stand up to the moment before a commit, which sees no more.
+    pub fn limit_before(&self, k: u32) -> u32
+        requires first { 1 ≤ k }
+        requires last { k ≤ length self.now.wal.commits }
+        ensures value { result ≡ limit_at self.now (moment_before k) }
+        ensures order { result ≤ limit_at self.now (Commit k) }
+    {
+        let _ = &self.header;
+        if k == 1 {
+            0
+        } else {
+            self.limit(Moment::Commit(k - 1))
         }
     }
 

@@ -1,41 +1,49 @@
-use Rattle.std.proofs.Common.{◌≡◌, ◌≤◌, ℕ, length, true, false, sym, ap, ◌∙◌, arith, rules}
-use Rattle.sx_moment.specs.Firsts.{first_in, taken, is_taken}
-use Rattle.sx_moment.specs.Parts.{marked_only, is_bare}
-use Rattle.sx_moment.proofs.Listed.{taken_few}
-use Rattle.sx_moment.proofs.Uncertain.{mark_first, uncertain_taken, count_more, count_all}
-use Rattle.sx_moment.proofs.case.Case.uncertain_count.Goals.{then-is_taken, else-is_taken}
+use Rattle.std.proofs.Common.{◌≡◌, ℕ, ◌-◌, IsTrue, slice_index, ap, ◌∙◌, subst}
+use Rattle.std.proofs.lemmas.List.{get_or_default}
+use Rattle.sx_base.specs.declared.moment.Moment.TheVariants.{File, Commit}
+use Rattle.sx_moment.specs.Gathered.{is_moment, size_at}
+use Rattle.sx_moment.specs.Firsts.{first_in}
+use Rattle.sx_moment.specs.Parts.{IsGathered, marked_only}
+use Rattle.sx_moment.specs.Counts.{AreCounts}
+use Rattle.sx_moment.proofs.Counted.{uncertain_commit, uncertain_file, count_there}
 use Rattle.sx_moment.proofs.case.Case.uncertain_count.Goals as goal
 
-pub is_taken-requires-clause-first : goal.is_taken-requires-clause-first
-is_taken-requires-clause-first c =
-    let listed : (number : ℕ) → first_in c.self.inside.marks number ≡ marked_only c.args.self.now number = rw (← c.self.view_is) c.self.invariant.marks_are in
-    mark_first c.args.self.now c.self.inside.marks c.loop-i.i c.at.result c.self.invariant.marks_rise listed c.at.ensures
-
-pub overflow_add-count : goal.overflow_add-count
-overflow_add-count c =
-    let few = taken_few (is_bare c.args.self.now c.args.moment) c.size-size.result c.self.inside.marks c.self.invariant.marks_rise in
-    let takes : is_taken (is_bare c.args.self.now c.args.moment) c.size-size.result c.at.result ≡ true = sym c.is_taken.ensures ∙ c.if-is_taken.true in
-    let more = count_more (is_bare c.args.self.now c.args.moment) c.size-size.result c.self.inside.marks c.loop-i.i c.at.result true c.at.ensures takes in
-    omega (arith, few, more, c.loop-i.invariant, c.size-size.type_inv)
-
-pub loop-i-preserved : goal.loop-i-preserved
-loop-i-preserved c = elim c.if-is_taken.branch [
-  | then-is_taken w ↦
-      let takes : is_taken (is_bare c.args.self.now c.args.moment) c.size-size.result c.at.result ≡ true = sym c.is_taken.ensures ∙ w.if-is_taken.true in
-      let more = count_more (is_bare c.args.self.now c.args.moment) c.size-size.result c.self.inside.marks c.loop-i.i c.at.result true c.at.ensures takes in
-      rw w.count-is (omega (arith, more, c.loop-i.invariant))
-  | else-is_taken w ↦
-      let leaves : is_taken (is_bare c.args.self.now c.args.moment) c.size-size.result c.at.result ≡ false = sym c.is_taken.ensures ∙ w.if-is_taken.false in
-      let more = count_more (is_bare c.args.self.now c.args.moment) c.size-size.result c.self.inside.marks c.loop-i.i c.at.result false c.at.ensures leaves in
-      rw w.count-is (omega (arith, more, c.loop-i.invariant))
-]
-
-pub returns : goal.returns
-returns c =
+pub returns-in-File : goal.returns-in-File
+returns-in-File c =
     let case = c.args.self.now in
-    let listed : (number : ℕ) → first_in c.self.inside.marks number ≡ marked_only case number = rw (← c.self.view_is) c.self.invariant.marks_are in
-    let past : length c.self.inside.marks ≤ c.loop-i.i = search rules in
-    let all = count_all (is_bare case c.args.moment) c.size-size.result c.self.inside.marks c.loop-i.i c.loop-i.count _ past c.loop-i.invariant in
-    all
-    ∙ ap (λ n. length (taken (is_bare case c.args.moment) n c.self.inside.marks)) c.size-size.ensures
-    ∙ ap length (sym (uncertain_taken case c.args.moment c.self.inside.marks c.self.invariant.marks_rise listed))
+    let are : (number : ℕ) → first_in c.self.inside.marks number ≡ marked_only case number = rw (← c.self.view_is) c.self.invariant.marks_are in
+    let size : c.size.result ≡ size_at case File =
+    c.size.ensures ∙ ap (size_at c.self.inside.sources) c.in-File.is ∙ ap (λ g. size_at g File) c.self.view_is in
+    rw c.in-File.is (uncertain_file case c.self.inside.marks c.size.result c.within.result c.self.invariant.marks_rise are size c.within.ensures.bound c.within.ensures.searched)
+
+pub overflow_sub-result : goal.overflow_sub-result
+overflow_sub-result c =
+    let case = c.args.self.now in
+    let k = c.in-Commit.k in
+    let gathered : IsGathered case = subst IsGathered c.self.view_is c.self.invariant.gathered in
+    let are : (number : ℕ) → first_in c.self.inside.marks number ≡ marked_only case number = rw (← c.self.view_is) c.self.invariant.marks_are in
+    let counted : AreCounts case c.self.inside.marks c.self.inside.mark_counts.items = rw (← c.self.view_is) c.self.invariant.marks_counted in
+    let listed : IsTrue (is_moment case (Commit k)) = rw c.in-Commit.is at c.requires in
+    let there = count_there case c.self.inside.marks c.self.inside.mark_counts.items k listed counted in
+    let count : c.index.result.now ≡ slice_index c.self.inside.mark_counts.items (k - 1) =
+    c.index.ensures ∙ get_or_default c.self.inside.mark_counts.items (k - 1) c.index.result.now 0 there.1 in
+    let size : c.size-in-Commit.result ≡ size_at case (Commit k) = rw (← c.self.view_is) c.size-in-Commit.ensures in
+    let both = uncertain_commit case c.self.inside.marks c.self.inside.mark_counts.items k c.size-in-Commit.result c.within-in-Commit.result c.index.result.now
+    gathered listed c.self.invariant.marks_rise are counted size c.within-in-Commit.ensures.bound c.within-in-Commit.ensures.searched count in
+    both.0
+
+pub returns-in-Commit : goal.returns-in-Commit
+returns-in-Commit c =
+    let case = c.args.self.now in
+    let k = c.in-Commit.k in
+    let gathered : IsGathered case = subst IsGathered c.self.view_is c.self.invariant.gathered in
+    let are : (number : ℕ) → first_in c.self.inside.marks number ≡ marked_only case number = rw (← c.self.view_is) c.self.invariant.marks_are in
+    let counted : AreCounts case c.self.inside.marks c.self.inside.mark_counts.items = rw (← c.self.view_is) c.self.invariant.marks_counted in
+    let listed : IsTrue (is_moment case (Commit k)) = rw c.in-Commit.is at c.requires in
+    let there = count_there case c.self.inside.marks c.self.inside.mark_counts.items k listed counted in
+    let count : c.index.result.now ≡ slice_index c.self.inside.mark_counts.items (k - 1) =
+    c.index.ensures ∙ get_or_default c.self.inside.mark_counts.items (k - 1) c.index.result.now 0 there.1 in
+    let size : c.size-in-Commit.result ≡ size_at case (Commit k) = rw (← c.self.view_is) c.size-in-Commit.ensures in
+    let both = uncertain_commit case c.self.inside.marks c.self.inside.mark_counts.items k c.size-in-Commit.result c.within-in-Commit.result c.index.result.now
+    gathered listed c.self.invariant.marks_rise are counted size c.within-in-Commit.ensures.bound c.within-in-Commit.ensures.searched count in
+    rw c.in-Commit.is both.1

@@ -1,7 +1,7 @@
 use Rattle.std.proofs.Common.{◌≡◌, ◌+◌, length, drop}
 use Rattle.sx_moment.specs.Firsts.{taken}
 use Rattle.sx_moment.specs.Parts.{is_bare}
-use Rattle.sx_moment.proofs.case.Case.uncertain_count.Given as goal
+use Rattle.sx_moment.proofs.case.Case.count_bare.Given as goal
 
 -- those so far are counted
 abbrev pub invariant-loop-i : goal.invariant-loop-i
