@@ -1,19 +1,18 @@
--- The two faults of a cell: where a payload is too long, and where something ends past the usable bytes.
-use Rattle.std.proofs.Common.{◌≡◌, inl, inr, ℕ, ℤ, ◌+◌, ◌<◌, ◌≤◌, nat_lt, Bool, true, false, cond, List, [], ◌∷◌, ◌++◌, length, take, drop, Option, Some, None, Result, Ok, Err, refl, sym, ap, ◌∙◌, arith}
+-- Where a payload is too long.
+use Rattle.std.proofs.Common.{◌≡◌, inl, inr, ℕ, ℤ, ◌+◌, ◌<◌, ◌≤◌, nat_lt, Bool, true, false, cond, List, [], ◌∷◌, ◌++◌, length, take, drop, Option, Some, None, Result, Ok, Err, refl, ap, ◌∙◌, arith}
 use Rattle.std.proofs.lemmas.Bool.{ltb-true, lt-ltb, le-ltb}
 use Rattle.std.proofs.lemmas.List.{length-append, length-take, length-drop}
 use Rattle.sx_bytes.specs.Varints.{IsVarint, varint_at}
 use Rattle.sx_cell.specs.declared.cell.Kind.{Kind}
 use Rattle.sx_cell.specs.declared.cell.Kind.TheVariants.{TableLeaf, TableInner, IndexLeaf, IndexInner}
-use Rattle.sx_cell.specs.declared.cell.Cell.{Cell}
 use Rattle.sx_cell.specs.declared.cell.CellFault.{CellFault}
 use Rattle.sx_cell.specs.declared.cell.CellFault.TheVariants.{Outside, TooLong}
-use Rattle.sx_cell.specs.Local.{local_of}
-use Rattle.sx_cell.specs.Fields.{◌>>=◌, word_field, found_field, varint_field, word_if, has_child, limited, size_field, signed_field, key_field}
+use Rattle.sx_cell.specs.Kinds.{has_child}
+use Rattle.sx_cell.specs.Local.{longest_payload, local_of}
+use Rattle.sx_cell.specs.Fields.{◌>>=◌, word_field, found_field, varint_field, word_if, limited, size_field, signed_field, key_field}
 use Rattle.sx_cell.specs.Reading.{Head, head_at, body_at, cell_at, cell_of}
-use Rattle.sx_cell.specs.Cells.{IsChild, IsSize, IsTooLong, IsOutside}
+use Rattle.sx_cell.specs.Cells.{IsChild, IsSize, IsTooLong}
 use Rattle.sx_cell.proofs.FieldLemmas.{bind_err, varint_is_field, word_if_is_field}
-use Rattle.sx_cell.proofs.CellLemmas.{stands_taken, stands_again}
 
 -- ---- what isn't too long
 
@@ -71,7 +70,7 @@ record SizeLong (kind : Kind) (bytes : List ℕ) : Type 0 where
   parts : bytes ≡ text ++ rest
   payload : ℕ
   is_size : IsSize kind text payload
-  above : 2147483647 < payload
+  above : longest_payload < payload
 
 above_limit : (b : Bool) (x : ℕ × List ℕ) → cond b (Err TooLong) (Ok x) ≡ Err TooLong → b ≡ true
 above_limit true x e = refl
@@ -83,7 +82,7 @@ record VarintLong (bytes : List ℕ) : Type 0 where
   parts : bytes ≡ text ++ rest
   payload : ℕ
   is : IsVarint text payload
-  above : 2147483647 < payload
+  above : longest_payload < payload
 
 varint_long : (bytes : List ℕ) → (varint_field bytes >>= limited) ≡ Err TooLong → VarintLong bytes
 varint_long bytes e =
@@ -91,14 +90,14 @@ varint_long bytes e =
       | inl here ↦ absurd (varint_not_long bytes here)
       | inr later ↦
           let t = varint_is_field.takes bytes later.0.0 later.0.1 later.1 in
-          let long = ltb-true 2147483647 later.0.0 (above_limit (nat_lt 2147483647 later.0.0) later.0 later.2) in
+          let long = ltb-true longest_payload later.0.0 (above_limit (nat_lt longest_payload later.0.0) later.0 later.2) in
           record { text = t.text; rest = later.0.1; parts = t.parts; payload = later.0.0; is = t.is; above = long }
     ]
 
-varint_long_again : (text rest : List ℕ) (payload : ℕ) → IsVarint text payload → 2147483647 < payload
+varint_long_again : (text rest : List ℕ) (payload : ℕ) → IsVarint text payload → longest_payload < payload
     → (varint_field (text ++ rest) >>= limited) ≡ Err TooLong
 varint_long_again text rest payload is above =
-    let long : nat_lt 2147483647 payload ≡ true = lt-ltb _ _ above in
+    let long : nat_lt longest_payload payload ≡ true = lt-ltb _ _ above in
     rw (varint_is_field.again text rest payload is, long) refl
 
 size_long : (kind : Kind) (bytes : List ℕ) → size_field kind bytes ≡ Err TooLong → SizeLong kind bytes
@@ -114,7 +113,7 @@ size_long IndexInner bytes e =
     let v = varint_long bytes e in
     record { text = v.text; rest = v.rest; parts = v.parts; payload = v.payload; is_size = v.is; above = v.above }
 
-size_long_again : (kind : Kind) (text rest : List ℕ) (payload : ℕ) → IsSize kind text payload → 2147483647 < payload
+size_long_again : (kind : Kind) (text rest : List ℕ) (payload : ℕ) → IsSize kind text payload → longest_payload < payload
     → size_field kind (text ++ rest) ≡ Err TooLong
 unfolding size_field
 size_long_again TableLeaf text rest payload is above = varint_long_again text rest payload is above
@@ -135,7 +134,7 @@ record HeadLong (kind : Kind) (bytes : List ℕ) : Type 0 where
   is_child : IsChild kind child_text child
   payload : ℕ
   is_size : IsSize kind size_text payload
-  above : 2147483647 < payload
+  above : longest_payload < payload
 
 head_long : (kind : Kind) (bytes : List ℕ) → head_at kind bytes ≡ Err TooLong → HeadLong kind bytes
 unfolding head_at
@@ -239,21 +238,3 @@ long_again kind page at usable h =
       is_size = h.is_size;
       above = h.above;
     })))
-
-outside_case : (kind : Kind) (page : List ℕ) (at usable : ℕ) (read : Result Cell CellFault) → usable ≤ length page
-    → cell_of kind page at usable ≡ read → IsOutside kind page at usable → read ≡ Err Outside
-outside_case kind page at usable (Ok cell) held e o = absurd (o.no_cell cell (stands_taken kind page at usable cell held e))
-outside_case kind page at usable (Err Outside) held e o = refl
-outside_case kind page at usable (Err TooLong) held e o = absurd (o.no_length (long_taken kind page at usable e))
-
--- the other fault is all the rest
-pub outside_taken : (kind : Kind) (page : List ℕ) (at usable : ℕ) → usable ≤ length page
-    → cell_of kind page at usable ≡ Err Outside → IsOutside kind page at usable
-outside_taken kind page at usable held e = record {
-  no_cell = λ cell s. let both = sym e ∙ stands_again kind page at usable cell held s in cc;
-  no_length = λ h. let both = sym e ∙ long_again kind page at usable h in cc;
-}
-
-pub outside_again : (kind : Kind) (page : List ℕ) (at usable : ℕ) → usable ≤ length page
-    → IsOutside kind page at usable → cell_of kind page at usable ≡ Err Outside
-outside_again kind page at usable held o = outside_case kind page at usable (cell_of kind page at usable) held refl o

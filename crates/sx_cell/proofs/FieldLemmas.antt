@@ -9,6 +9,7 @@ use Rattle.sx_cell.specs.declared.cell.Kind.{Kind}
 use Rattle.sx_cell.specs.declared.cell.Kind.TheVariants.{TableLeaf, TableInner, IndexLeaf, IndexInner}
 use Rattle.sx_cell.specs.declared.cell.CellFault.{CellFault}
 use Rattle.sx_cell.specs.declared.cell.CellFault.TheVariants.{Outside, TooLong}
+use Rattle.sx_cell.specs.Local.{longest_payload}
 use Rattle.sx_cell.specs.Fields.{◌>>=◌, word_field, found_field, varint_field, word_if, limited, size_field, signed, signed_field, key_field}
 use Rattle.sx_cell.specs.Cells.{IsWord, IsWordIf, IsSize, IsSigned, IsKey}
 
@@ -148,23 +149,23 @@ key_is_field IndexInner = empty_field None
 
 -- the length of a payload that isn't above the greatest
 abbrev pub IsLimited : Kind → List ℕ → ℕ → Type 0
-IsLimited kind text payload = IsSize kind text payload × (payload ≤ 2147483647)
+IsLimited kind text payload = IsSize kind text payload × (payload ≤ longest_payload)
 
-limited_is_field : IsField (λ bytes. varint_field bytes >>= limited) (λ text payload. IsVarint text payload × (payload ≤ 2147483647))
+limited_is_field : IsField (λ bytes. varint_field bytes >>= limited) (λ text payload. IsVarint text payload × (payload ≤ longest_payload))
 limited_is_field = record {
   takes = λ bytes x rest e.
       let b = bind_ok (varint_field bytes) limited (x, rest) e in
-      let g = guard_ok (nat_lt 2147483647 b.0.0) TooLong (Ok b.0) _ b.2 (x, rest) refl in
-      let below : b.0.0 ≤ 2147483647 = ltb-false _ _ g.0 in
+      let g = guard_ok (nat_lt longest_payload b.0.0) TooLong (Ok b.0) _ b.2 (x, rest) refl in
+      let below : b.0.0 ≤ longest_payload = ltb-false _ _ g.0 in
       let value = field_value b.0.0 x b.0.1 rest g.1 in
       let t = varint_is_field.takes bytes b.0.0 b.0.1 b.1 in
       record {
         text = t.text;
         parts = t.parts ∙ ap (λ other. t.text ++ other) (field_rest b.0.0 x b.0.1 rest g.1);
-        is = subst (λ n. IsVarint t.text n × (n ≤ 2147483647)) value (t.is, below);
+        is = subst (λ n. IsVarint t.text n × (n ≤ longest_payload)) value (t.is, below);
       };
   again = λ text rest x is.
-      let below : nat_lt 2147483647 x ≡ false = le-ltb _ _ is.1 in
+      let below : nat_lt longest_payload x ≡ false = le-ltb _ _ is.1 in
       rw (varint_is_field.again text rest x is.0, below) refl;
 }
 

@@ -4,7 +4,8 @@ use Rattle.std.proofs.lemmas.Bool.{ltb-false, le-ltb}
 use Rattle.std.proofs.lemmas.List.{drop_at, take-append-drop, length-append, length-take}
 use Rattle.sx_cell.specs.declared.cell.Kind.{Kind}
 use Rattle.sx_cell.specs.declared.cell.CellFault.TheVariants.{Outside}
-use Rattle.sx_cell.specs.Fields.{◌>>=◌, word_if, has_child, size_field, key_field}
+use Rattle.sx_cell.specs.Kinds.{has_child}
+use Rattle.sx_cell.specs.Fields.{◌>>=◌, word_if, size_field, key_field}
 use Rattle.sx_cell.specs.Reading.{Head, head_at, body_at}
 use Rattle.sx_cell.specs.Cells.{IsWordIf, IsChild, IsKey}
 use Rattle.sx_cell.proofs.FieldLemmas.{bind_ok, guard_ok, ok_is, word_if_is_field, key_is_field, size_is_field, IsLimited}

@@ -2,3 +2,4 @@ pub mod FieldLemmas
 pub mod HeadLemmas
 pub mod CellLemmas
 pub mod FaultLemmas
+pub mod OutsideLemmas

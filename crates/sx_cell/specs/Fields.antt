@@ -8,6 +8,7 @@ use Rattle.sx_cell.specs.declared.cell.Kind.{Kind}
 use Rattle.sx_cell.specs.declared.cell.Kind.TheVariants.{TableLeaf, TableInner, IndexLeaf, IndexInner}
 use Rattle.sx_cell.specs.declared.cell.CellFault.{CellFault}
 use Rattle.sx_cell.specs.declared.cell.CellFault.TheVariants.{Outside, TooLong}
+use Rattle.sx_cell.specs.Local.{longest_payload}
 
 infixl 10 ◌>>=◌
 -- one step after the other, up to the first fault
@@ -38,16 +39,9 @@ unfoldable pub word_if : Bool → List ℕ → Result (Option ℕ × List ℕ) C
 word_if false bytes = Ok (None, bytes)
 word_if true bytes = word_field bytes >>= λ word. Ok (Some word.0, word.1)
 
--- interior pages have children
-abbrev pub has_child : Kind → Bool
-has_child TableLeaf = false
-has_child TableInner = true
-has_child IndexLeaf = false
-has_child IndexInner = true
-
 -- the length of a payload, if it isn't above the greatest
 abbrev pub limited : ℕ × List ℕ → Result (ℕ × List ℕ) CellFault
-limited size = if nat_lt 2147483647 size.0 then Err TooLong else Ok size
+limited size = if nat_lt longest_payload size.0 then Err TooLong else Ok size
 
 -- the length of the payload: interior cells of a table have none
 unfoldable pub size_field : Kind → List ℕ → Result (ℕ × List ℕ) CellFault

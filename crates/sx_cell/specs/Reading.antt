@@ -5,7 +5,8 @@ use Rattle.sx_cell.specs.declared.cell.Cell.{Cell}
 use Rattle.sx_cell.specs.declared.cell.CellFault.{CellFault}
 use Rattle.sx_cell.specs.declared.cell.CellFault.TheVariants.{Outside}
 use Rattle.sx_cell.specs.Local.{local_of}
-use Rattle.sx_cell.specs.Fields.{◌>>=◌, word_if, has_child, size_field, key_field}
+use Rattle.sx_cell.specs.Kinds.{has_child}
+use Rattle.sx_cell.specs.Fields.{◌>>=◌, word_if, size_field, key_field}
 
 -- what stands in front of the payload, and the bytes behind it
 pub record Head : Type 0 where

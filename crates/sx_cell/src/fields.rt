@@ -1,12 +1,11 @@
 //! The fields of a cell, each read from the front of the bytes that are left.
 ghost use Rattle.std.specs.Prelude.{◌≡◌, ◌≤◌, length, IfOk};
-ghost use Rattle.sx_cell.specs.Fields.{Reads, word_field, varint_field, word_if, has_child, size_field, signed_field, key_field};
+ghost use Rattle.sx_cell.specs.Local.{longest_payload};
+ghost use Rattle.sx_cell.specs.Fields.{Reads, word_field, varint_field, word_if, size_field, signed_field, key_field};
 
 use crate::cell::{CellFault, Kind};
+use crate::local::LONGEST_PAYLOAD;
 use sx_bytes::{be32, varint};
-
-/// The longest payload that a cell may have.
-const LONGEST_PAYLOAD: u64 = 2147483647;
 
 /// A word and the bytes behind it.
 #[tactic(auto, unfolding(crate::specs::Fields::word_field))]
@@ -49,22 +48,12 @@ pub fn read_word_if(there: bool, bytes: &[u8]) -> Result<(Option<u32>, &[u8]), C
     Ok((Some(word), rest))
 }
 
-/// Whether cells of that kind have a left child.
-pub fn has_child(kind: Kind) -> bool
-    ensures { result ≡ has_child kind }
-{
-    match kind {
-        Kind::TableInner | Kind::IndexInner => true,
-        Kind::TableLeaf | Kind::IndexLeaf => false,
-    }
-}
-
 /// The length of the payload and the bytes behind it: 0 and all bytes for interior cells of a table.
 #[tactic(auto, unfolding(crate::specs::Fields::size_field))]
 pub fn read_size(kind: Kind, bytes: &[u8]) -> Result<(u64, &[u8]), CellFault>
     ensures reads { Reads (λ field. (field.0, field.1.now)) result (size_field kind bytes.now) }
     ensures shorter { IfOk result (λ field. length field.1.now ≤ length bytes.now) }
-    ensures limited { IfOk result (λ field. field.0 ≤ 2147483647) }
+    ensures limited { IfOk result (λ field. field.0 ≤ longest_payload) }
 {
     if kind == Kind::TableInner {
         return Ok((0, bytes));

@@ -7,7 +7,7 @@ mod local;
 mod reading;
 
 pub use cell::{Cell, CellFault, Kind};
-pub use local::local_len;
+pub use local::{LINK_LEN, LONGEST_PAYLOAD, local_len, need_of};
 pub use reading::{cells_both_ways, cells_lie_in_page, read_cell};
 
 #[cfg(test)]

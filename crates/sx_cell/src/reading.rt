@@ -8,7 +8,7 @@ ghost use Rattle.sx_cell.specs.declared.cell.Cell.{Cell};
 ghost use Rattle.sx_cell.specs.declared.cell.CellFault.TheVariants.{Outside, TooLong};
 
 use crate::cell::{Cell, CellFault, Kind};
-use crate::fields::{has_child, read_key, read_size, read_word_if};
+use crate::fields::{read_key, read_size, read_word_if};
 use crate::local::local_len;
 
 /// What stands in front of a cell's payload, and the bytes behind it.
@@ -74,7 +74,7 @@ fn read_head(kind: Kind, bytes: &[u8]) -> Result<Front<'_>, CellFault>
     ensures reads { Reads (λ head. record { child = head.child; payload = head.payload; key = head.key; rest = head.rest.now }) result (head_at kind bytes.now) }
     ensures shorter { IfOk result (λ head. length head.rest.now ≤ length bytes.now) }
 {
-    let (child, behind_child) = read_word_if(has_child(kind), bytes)?;
+    let (child, behind_child) = read_word_if(kind.has_child(), bytes)?;
     let (payload, behind_size) = read_size(kind, behind_child)?;
     let (key, rest) = read_key(kind, behind_size)?;
     Ok(Front {
@@ -100,9 +100,8 @@ fn read_body(local: u32, payload: u64, bytes: &[u8]) -> Result<(Option<u32>, &[u
 }
 
 /// A cell is read exactly where it stands, a payload that is too long is answered exactly where one stands, and the
-/// fault that something ends past the usable bytes exactly where neither does. This is a law of the definitions; the
-/// function has no code.
-#[tactic(auto, using(crate::proofs::FaultLemmas::long_taken, crate::proofs::FaultLemmas::long_again, crate::proofs::FaultLemmas::outside_taken, crate::proofs::FaultLemmas::outside_again))]
+/// fault that something ends past the usable bytes exactly where a field, or what the cell owns, does. This is a law of
+/// the definitions; the function has no code.
 pub fn cells_both_ways()
     ensures stands { (kind : Kind) (page : List ℕ) (at usable : ℕ) (cell : Cell) → usable ≤ length page → (cell_of kind page at usable ≡ Ok cell) ↔ StandsAt kind page at usable cell }
     ensures too_long { (kind : Kind) (page : List ℕ) (at usable : ℕ) → usable ≤ length page → (cell_of kind page at usable ≡ Err TooLong) ↔ IsTooLong kind page at usable }

@@ -142,6 +142,31 @@ fn a_longer_payload_names_its_first_overflow_page(rt: HostRuntime) {
 }
 
 #[test]
+fn the_rest_of_a_payload_needs_overflow_pages(rt: HostRuntime) {
+    for (payload, spilled, pages) in [(39, 0, 0), (547, 508, 1), (548, 509, 2), (20, 0, 0)] {
+        let cell = Cell {
+            payload,
+            local: 39,
+            ..NOTHING
+        };
+        assert_eq!(rt; (cell.spilled(), cell.need(512)), (spilled, pages));
+    }
+}
+
+#[test]
+fn kinds_are_of_tables_and_interior(rt: HostRuntime) {
+    for (kind, table, inner) in [
+        (Kind::TableLeaf, true, false),
+        (Kind::TableInner, true, true),
+        (Kind::IndexLeaf, false, false),
+        (Kind::IndexInner, false, true),
+    ] {
+        let told = (kind.is_table(), kind.is_inner(), kind.has_child());
+        assert_eq!(rt; told, (table, inner, inner));
+    }
+}
+
+#[test]
 fn the_first_fault_is_answered(rt: HostRuntime) {
     let above = [0x88, 0x80, 0x80, 0x80, 0x00];
     let most = [0x87, 0xff, 0xff, 0xff, 0x7f, 0x01];

@@ -11,7 +11,7 @@ use Rattle.sx_base.specs.declared.label.Label.TheVariants.{DbHeader, NodeHeader,
 use Rattle.sx_cell.specs.declared.cell.Kind.{Kind}
 use Rattle.sx_cell.specs.declared.cell.Cell.{Cell}
 use Rattle.sx_cell.specs.declared.cell.CellFault.{CellFault}
-use Rattle.sx_cell.specs.Fields.{has_child}
+use Rattle.sx_cell.specs.Kinds.{has_child}
 use Rattle.sx_cell.proofs.CellLemmas.{has_ranges}
 use Rattle.sx_node.specs.Nodes.{NodePage, HoldsArray, header_at, header_len, first_freeblock, cell_count, array_at, pointer_at, cell_in}
 use Rattle.sx_node.specs.Freeblocks.{freeblocks_of}

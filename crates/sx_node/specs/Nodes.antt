@@ -6,7 +6,7 @@ use Rattle.sx_cell.specs.declared.cell.Kind.{Kind}
 use Rattle.sx_cell.specs.declared.cell.Kind.TheVariants.{TableLeaf, TableInner, IndexLeaf, IndexInner}
 use Rattle.sx_cell.specs.declared.cell.Cell.{Cell}
 use Rattle.sx_cell.specs.declared.cell.CellFault.{CellFault}
-use Rattle.sx_cell.specs.Fields.{has_child}
+use Rattle.sx_cell.specs.Kinds.{has_child}
 use Rattle.sx_cell.specs.Reading.{cell_of}
 use Rattle.sx_node.specs.declared.node.NodeFault.{NodeFault}
 use Rattle.sx_node.specs.declared.node.NodeFault.TheVariants.{BadFlag, BadArray}

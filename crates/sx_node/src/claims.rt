@@ -114,16 +114,11 @@ impl<'a> Iterator for FixedClaims<'a> {
 
     fn next(&mut self) -> Option<(Span, Label)> {
         match self.part {
-            FixedPart::Database => {
-                if self.node.is_first() {
-                    self.part = FixedPart::Header;
-                    Some((Span { start: 0, len: 100 }, Label::DbHeader))
-                } else {
-                    self.part = FixedPart::Array;
-                    Some((self.node.header_span(), Label::NodeHeader))
-                }
+            FixedPart::Database if self.node.is_first() => {
+                self.part = FixedPart::Header;
+                Some((Span { start: 0, len: 100 }, Label::DbHeader))
             }
-            FixedPart::Header => {
+            FixedPart::Database | FixedPart::Header => {
                 self.part = FixedPart::Array;
                 Some((self.node.header_span(), Label::NodeHeader))
             }

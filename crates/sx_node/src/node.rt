@@ -4,9 +4,11 @@ ghost use Rattle.sx_cell.specs.Cells.{HasRanges, WasRead};
 ghost use Rattle.sx_node.specs.Nodes.{NodePage, HoldsArray, IsNodeOf, header_at, header_len, kind_of, with_array, node_of, first_freeblock, cell_count, content_start, fragment_bytes, right_child, array_at, pointer_at, cell_in};
 ghost use Rattle.sx_node.specs.Freeblocks.{freeblocks_of};
 ghost use Rattle.sx_node.specs.Claims.{LiesWithin, claims_of};
+ghost use Rattle.sx_node.specs.Targets.{targets_of};
 
 use crate::claims::Claims;
 use crate::freeblocks::Freeblocks;
+use crate::targets::Targets;
 use std::marker::Model;
 use sx_base::Span;
 use sx_bytes::{be16, be32};
@@ -133,10 +135,12 @@ impl<'a> Node<'a> {
         u32::from(be16(self.page, header_at(self.number) + 3))
     }
 
-    /// The offset of the first freeblock in bytes from the start of the page, or 0 where the header names none.
+    /// The offset of the first freeblock in bytes from the start of the page, from 1 to 65535, or 0 where the header names
+    /// none.
     #[tactic(auto, unfolding(crate::specs::Nodes::first_freeblock))]
     pub fn first_freeblock(&self) -> u32
-        ensures { result ≡ first_freeblock self.now }
+        ensures value { result ≡ first_freeblock self.now }
+        ensures below { result < 65536 }
     {
         u32::from(be16(self.page, header_at(self.number) + 1))
     }
@@ -144,7 +148,9 @@ impl<'a> Node<'a> {
     /// Where the cell content area begins, in bytes from the start of the page, from 1 to 65536.
     #[tactic(auto, unfolding(crate::specs::Nodes::content_start))]
     pub fn content(&self) -> u32
-        ensures { result ≡ content_start self.now }
+        ensures value { result ≡ content_start self.now }
+        ensures some { 0 < result }
+        ensures within { result ≤ 65536 }
     {
         match be16(self.page, header_at(self.number) + 5) {
             0 => 65536,
@@ -152,10 +158,11 @@ impl<'a> Node<'a> {
         }
     }
 
-    /// How many bytes of the cell content area are fragments, as the header says it.
+    /// How many bytes of the cell content area are fragments, as the header says it: from 0 to 255.
     #[tactic(auto, unfolding(crate::specs::Nodes::fragment_bytes))]
     pub fn fragments(&self) -> u32
-        ensures { result ≡ fragment_bytes self.now }
+        ensures value { result ≡ fragment_bytes self.now }
+        ensures below { result < 256 }
     {
         u32::from(self.page[header_at(self.number) + 7])
     }
@@ -174,11 +181,12 @@ impl<'a> Node<'a> {
     }
 
     /// The cell pointer of index `i`, counted from 0 and below the number of cells: where the cell begins, in bytes from
-    /// the start of the page. It may be any number of 2 bytes.
+    /// the start of the page. It may be any number of 2 bytes, from 0 to 65535.
     #[tactic(auto, unfolding(crate::specs::Nodes::pointer_at))]
     pub fn pointer(&self, i: u32) -> u32
         requires { i < cell_count self.now }
-        ensures { result ≡ pointer_at self.now i }
+        ensures value { result ≡ pointer_at self.now i }
+        ensures below { result < 65536 }
     {
         let array = header_at(self.number) + header_len(self.kind);
         u32::from(be16(self.page, array + 2 * i as usize))
@@ -215,8 +223,19 @@ impl<'a> Node<'a> {
         Claims::start(self)
     }
 
-    /// The same page once more.
-    pub(crate) fn again(&self) -> Node<'a>
+    /// The pages that the page names: each cell's child and then its first overflow page, by the index of the cell, where
+    /// it can be read, and last the right-most child. Each cell is read once, and nothing takes memory.
+    #[tactic(auto, using(crate::proofs::TargetLemmas::few_targets))]
+    pub fn targets(&self) -> Targets<'a>
+        ensures value { result ≡ targets_of self.now }
+        ensures few { length (targets_of self.now) < 2 ^ 32 }
+    {
+        let _page = self.page;
+        Targets::start(self)
+    }
+
+    /// The same page once more, for one that goes on to read it by itself.
+    pub fn again(&self) -> Node<'a>
         ensures { result ≡ self.now }
     {
         Node {

@@ -1,5 +1,5 @@
 //! B-tree pages of plain databases, and damaged ones.
-use crate::{Node, NodeFault, read_node};
+use crate::{Node, NodeFault, NodeTarget, read_node};
 use std::process::Abort;
 use std::test::Fail;
 use sx_base::{Label, Span};
@@ -245,6 +245,27 @@ fn a_faulty_cell_leaves_the_rest(rt: HostRuntime) -> Result<(), Fail> {
         (511, Err(CellFault::Outside))
     );
     assert_claims(&rt, &page, 2, 512, &want)
+}
+
+#[test]
+fn an_interior_page_of_an_index_names_pages(rt: HostRuntime) -> Result<(), Fail> {
+    let mut page = [0; 512];
+    page[..14].copy_from_slice(b"\x02\x00\x00\x00\x03\x01\xc7\x00\x00\x00\x00\x04\x01\xf8");
+    page[14..18].copy_from_slice(b"\x01\xff\x01\xc7");
+    page[455..461].copy_from_slice(b"\x00\x00\x00\x05\x80\x67");
+    page[500..512].copy_from_slice(b"\x00\x00\x00\x09\x00\x00\x00\x03\x03\x02\x01\x07");
+    let mut targets = read_sound(&page, 2, 512)?.targets();
+    let want = [
+        NodeTarget::Child { cell: 0, page: 3 },
+        NodeTarget::Child { cell: 2, page: 5 },
+        NodeTarget::Overflow { cell: 2, page: 9 },
+        NodeTarget::Right(4),
+    ];
+    for target in want {
+        assert_eq!(rt; targets.next(), Some(target));
+    }
+    assert_eq!(rt; targets.next(), None);
+    Ok(())
 }
 
 #[test]
