@@ -3,3 +3,4 @@ pub mod HeadLemmas
 pub mod CellLemmas
 pub mod FaultLemmas
 pub mod OutsideLemmas
+pub mod NeedLemmas

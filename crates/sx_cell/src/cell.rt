@@ -80,7 +80,8 @@ impl Cell {
     /// Pages").
     pub fn need(&self, usable: u32) -> u64
         requires { 480 ≤ usable }
-        ensures { result ≡ need_of usable (spilled self.now) }
+        ensures value { result ≡ need_of usable (spilled self.now) }
+        ensures few { result ≤ spilled self.now }
     {
         need_of(usable, self.spilled())
     }

@@ -98,9 +98,11 @@ fn least_local(usable: u32) -> u32
 
 /// How many overflow pages hold so many bytes of payload, on pages with so many usable bytes, 480 or more ("Cell Payload
 /// Overflow Pages").
+#[tactic(auto, using(crate::proofs::NeedLemmas::few_pages))]
 pub fn need_of(usable: u32, left: u64) -> u64
     requires { 480 ≤ usable }
-    ensures { result ≡ need_of usable left }
+    ensures value { result ≡ need_of usable left }
+    ensures few { result ≤ left }
 {
     left.div_ceil(u64::from(usable - LINK_LEN))
 }

@@ -1,6 +1,5 @@
 -- How long a chain of overflow pages is, page by page.
-use Rattle.std.proofs.Common.{◌≡◌, ℕ, suc, ◌+◌, ◌-◌, ◌<◌, ◌≤◌, ◌==◌, true, false, List, Option, Some, None, length, refl, arith}
-use Rattle.std.proofs.lemmas.Bool.Decides.{nat_tests}
+use Rattle.std.proofs.Common.{◌≡◌, ℕ, suc, ◌+◌, ◌-◌, ◌<◌, ◌≤◌, List, Option, Some, None, length, refl, arith}
 use Rattle.sx_overflow.specs.Chains.{link_of, linked, chain_of}
 
 -- a page more
@@ -13,21 +12,19 @@ chain_more view number need met next page below found link =
     rw more (rw (found, link) refl)
 
 -- no page where one is needed
-pub chain_short : (view : ℕ → Option (List ℕ)) (number need met whole : ℕ) → met < need → linked view number ≡ None
-    → whole ≡ met + length (chain_of view number (need - met)) → false ≡ (whole == need)
+pub chain_short : (view : ℕ → Option (List ℕ)) (number most met whole : ℕ) → met < most → linked view number ≡ None
+    → whole ≡ met + length (chain_of view number (most - met)) → met ≡ whole
 unfolding chain_of
-chain_short view number need met whole below none is =
-    let more : need - met ≡ suc (need - (met + 1)) = omega arith in
-    let over : length (chain_of view number (need - met)) ≡ 0 = rw more (rw none refl) in
-    let less : whole < need = omega arith in
-    grind (arith, nat_tests)
+chain_short view number most met whole below none is =
+    let more : most - met ≡ suc (most - (met + 1)) = omega arith in
+    let over : length (chain_of view number (most - met)) ≡ 0 = rw more (rw none refl) in
+    omega arith
 
--- as many pages as are needed
-pub chain_whole : (view : ℕ → Option (List ℕ)) (number need met whole : ℕ) → met ≤ need → need ≤ met
-    → whole ≡ met + length (chain_of view number (need - met)) → true ≡ (whole == need)
+-- as many pages as are asked for
+pub chain_whole : (view : ℕ → Option (List ℕ)) (number most met whole : ℕ) → met ≤ most → most ≤ met
+    → whole ≡ met + length (chain_of view number (most - met)) → most ≡ whole
 unfolding chain_of
-chain_whole view number need met whole within past is =
-    let none : need - met ≡ 0 = omega arith in
-    let over : length (chain_of view number (need - met)) ≡ 0 = rw none refl in
-    let same : whole ≡ need = omega arith in
-    grind (arith, nat_tests)
+chain_whole view number most met whole within past is =
+    let none : most - met ≡ 0 = omega arith in
+    let over : length (chain_of view number (most - met)) ≡ 0 = rw none refl in
+    omega arith

@@ -7,7 +7,8 @@ use Rattle.std.proofs.lemmas.Bool.{leb-true, leb-false, le-leb}
 use Rattle.std.proofs.lemmas.Bool.Decides.{nat_tests}
 use Rattle.std.proofs.lemmas.List.{take-take, take_all, length-take}
 use Rattle.sx_base.specs.Held.{held_pages}
-use Rattle.sx_overflow.specs.Chains.{need_of, link_of, body_of, linked, chain_of, overflow_pages, bodies_of}
+use Rattle.sx_cell.specs.Local.{need_of}
+use Rattle.sx_overflow.specs.Chains.{link_of, body_of, linked, chain_of, overflow_pages, bodies_of}
 use Rattle.sx_overflow.specs.Payloads.{ToCome, to_come}
 
 -- nothing is needed for nothing

@@ -10,7 +10,8 @@ use Rattle.sx_base.specs.Held.{held_pages}
 use Rattle.sx_cell.specs.declared.cell.Cell.{Cell}
 use Rattle.sx_cell.specs.Cells.{WasRead}
 use Rattle.sx_cell.proofs.CellLemmas.{read_ranges}
-use Rattle.sx_overflow.specs.Chains.{need_of, link_of, body_of, linked, chain_of, overflow_pages, bodies_of}
+use Rattle.sx_cell.specs.Local.{need_of}
+use Rattle.sx_overflow.specs.Chains.{link_of, body_of, linked, chain_of, overflow_pages, bodies_of}
 use Rattle.sx_overflow.specs.Payloads.{to_come, local_part, some_piece, payload_of}
 use Rattle.sx_overflow.specs.Whole.{IsLinked, HasUsable, IsPayload}
 use Rattle.sx_overflow.proofs.Pieces.{need_none, need_more}
@@ -201,6 +202,18 @@ payload_is_whole size view page usable cell bytes short payload =
     let found : (length payload.pages == need_of usable left) ≡ false = rw (← same) short in
     let never : true ≡ false = sym is ∙ found in
     cc
+
+-- no other bytes are the payload
+pub payload_is_only : (size : ℕ) (view : ℕ → Option (List ℕ)) (page : List ℕ) (usable : ℕ) (cell : Cell) (bytes : List ℕ) → HasUsable view usable
+    → IsPayload size view page usable cell bytes → bytes ≡ concat (payload_of size view page usable cell).pieces
+payload_is_only size view page usable cell bytes room payload =
+    let number = unwrap_or cell.overflow 0 in
+    let left = cell.payload - cell.local in
+    let same = linked_pages size view usable number left payload.pages payload.chain payload.needed payload.few in
+    payload.joined
+    ∙ ap (λ rest. local_part page cell ++ rest) (sym (bodies_joined usable left payload.pages (linked_usable view usable number payload.pages room payload.chain)))
+    ∙ ap (λ pages. local_part page cell ++ concat (bodies_of usable left pages)) (sym same)
+    ∙ sym (joined_pieces size view page usable cell)
 
 bodies_few : (usable left : ℕ) (pages : List (List ℕ)) → length (concat (bodies_of usable left pages)) ≤ left
 unfolding bodies_of

@@ -3,12 +3,12 @@ use Rattle.std.specs.Prelude.{◌≡◌, ℕ, ◌+◌, ◌≤◌, Bool, true, Li
 use Rattle.std.specs.List.{concat}
 use Rattle.sx_base.specs.Held.{held_pages}
 use Rattle.sx_cell.specs.declared.cell.Cell.{Cell}
-use Rattle.sx_overflow.specs.Chains.{need_of}
+use Rattle.sx_cell.specs.Local.{longest_payload, need_of}
 
 -- the local part is one of the payload and stands within the usable bytes
 pub record IsWithin (usable : ℕ) (cell : Cell) : Type 0 where
   pub part : cell.local ≤ cell.payload
-  pub limit : cell.payload ≤ 2147483647
+  pub limit : cell.payload ≤ longest_payload
   pub held : cell.local_at + cell.local ≤ usable
 
 -- the usable bytes are within the page size, the bytes to come are few, and where the overflow pages that are needed were
@@ -16,5 +16,5 @@ pub record IsWithin (usable : ℕ) (cell : Cell) : Type 0 where
 pub record IsSound (size : ℕ) (view : ℕ → Option (List ℕ)) (page_size usable : ℕ) (first : List (List ℕ)) (left : ℕ) (counted : Bool) : Type 0 where
   pub least : 480 ≤ usable
   pub within : usable ≤ page_size
-  pub few : length (concat first) + left ≤ 2147483647
+  pub few : length (concat first) + left ≤ longest_payload
   pub enough : counted ≡ true → need_of usable left ≤ length (held_pages size view)

@@ -9,8 +9,9 @@ mod law;
 mod payload;
 mod refusal;
 
-pub use law::pieces_make_the_payload;
-pub use payload::Payload;
+pub use chain::chain_len;
+pub use law::{chains_by_length, pieces_make_the_payload};
+pub use payload::{Payload, as_local};
 pub use refusal::{PayloadRefused, ShortChain};
 
 #[cfg(test)]

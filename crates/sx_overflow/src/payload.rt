@@ -1,18 +1,19 @@
 //! The payload of a cell.
-ghost use Rattle.std.specs.Prelude.{◌≡◌, ◌≤◌, length, option_copied};
+ghost use Rattle.std.specs.Prelude.{◌≡◌, ℕ, ◌≤◌, List, length, Option, option_copied, IfSome};
 ghost use Rattle.std.specs.List.{concat};
 ghost use Rattle.std.specs.Option.{option_to_list};
 ghost use Rattle.sx_cell.specs.Cells.{WasRead};
-ghost use Rattle.sx_overflow.specs.Payloads.{payload_of, Gives, Gathers};
+ghost use Rattle.sx_overflow.specs.Payloads.{payload_of, local_payload, Gives, Gathers, GathersInto};
 ghost use Rattle.sx_overflow.specs.Sound.{IsWithin};
+ghost use Rattle.sx_overflow.specs.Whole.{IsPayload};
 
-use crate::chain::{LINK_LEN, is_whole_chain, is_within_held, linked, need_of};
+use crate::chain::{chain_len, is_within_held, linked};
 use crate::refusal::{PayloadRefused, ShortChain};
 use std::alloc::Global;
 use std::marker::Model;
 use sx_base::{PageViews, Pages};
 use sx_bytes::be32;
-use sx_cell::Cell;
+use sx_cell::{Cell, LINK_LEN, need_of};
 
 /// What is to come of a payload, with the pages that its overflow pages are among.
 #[derive(Drop)]
@@ -56,7 +57,7 @@ impl<'p, 'a, P: Pages<'a>> Payload<'p, 'a, P> {
             usable,
             local: if local.is_empty() { None } else { Some(local) },
             link: cell.overflow.unwrap_or(0),
-            left: (cell.payload - cell.local as u64) as u32,
+            left: cell.spilled() as u32,
             counted: false,
         }
     }
@@ -76,7 +77,7 @@ impl<'p, 'a, P: Pages<'a>> Payload<'p, 'a, P> {
         if self.left == 0 {
             return Ok(None);
         }
-        let need = need_of(self.usable, self.left);
+        let need = need_of(self.usable, self.left as u64);
         if !is_within_held(self.pages, need, self.counted) {
             return Err(ShortChain);
         }
@@ -93,30 +94,61 @@ impl<'p, 'a, P: Pages<'a>> Payload<'p, 'a, P> {
     /// The pieces that are still to come, joined: the payload, where none was taken.
     ///
     /// [`PayloadRefused::ShortChain`] comes exactly where [`Payload::next_piece`] would answer it on the way. Otherwise
-    /// memory is asked for at most once, for as many bytes as are still to come, and `Memory` comes only where it isn't
-    /// there. Each page is looked up twice.
-    pub fn gather(mut self, alloc: Global) -> Result<Vec<u8>, PayloadRefused>
+    /// memory is asked for at most once, for the bytes that are still to come, and `Memory` comes only where it isn't there.
+    /// Each page is looked up twice.
+    pub fn gather(self, alloc: Global) -> Result<Vec<u8>, PayloadRefused>
         ensures { Gathers result self.entry }
+    {
+        let mut bytes = Vec::new(alloc);
+        self.gather_into(&mut bytes)?;
+        Ok(bytes)
+    }
+
+    /// Appends the pieces that are still to come to `bytes`, which can be cleared and used again for the next payload.
+    ///
+    /// It refuses where [`Payload::gather`] does, and then leaves `bytes` as they were. Memory is asked for at most once,
+    /// where the room isn't there already.
+    pub fn gather_into(mut self, bytes: &mut Vec<u8>) -> Result<(), PayloadRefused>
+        ensures { GathersInto result self.entry bytes.old.items bytes.new.items }
     {
         if !self.is_whole() {
             return Err(PayloadRefused::ShortChain);
         }
-        let most = len_of(self.local) + self.left as usize;
-        let mut bytes = Vec::with_capacity(alloc, most)?;
+        bytes.reserve(len_of(self.local) + self.left as usize)?;
         while let Some(piece) = self.next_piece()? {
             bytes.extend_from_slice(piece).unwrap();
         }
-        Ok(bytes)
+        Ok(())
     }
 
-    /// Whether the pieces make the payload whole.
-    fn is_whole(&self) -> bool
+    /// Whether the pieces that are still to come make the payload whole: whether each page that it needs is there, and no
+    /// more are needed than have a view. Each of them is looked up once.
+    pub fn is_whole(&self) -> bool
         ensures { result ≡ self.now.whole }
     {
-        let need = need_of(self.usable, self.left);
+        let need = need_of(self.usable, self.left as u64);
         is_within_held(self.pages, need, self.counted)
-            && is_whole_chain(self.pages, self.link, need)
+            && chain_len(self.pages, self.link, need as u32) as u64 == need
     }
+}
+
+/// The payload of a cell that was read from `page`, where it stands in its cell as a whole, and `None` exactly where some
+/// of it stands on overflow pages.
+///
+/// The page has at least its usable bytes, which are 480 or more. It is a borrow of the page, and takes no memory.
+#[tactic(auto, using(crate::proofs::LocalPayload::local_is_payload))]
+pub fn as_local<'a>(page: &'a [u8], cell: &Cell, usable: u32) -> Option<&'a [u8]>
+    requires least { 480 ≤ usable }
+    requires held { usable ≤ length page.now }
+    requires read { WasRead page.now usable cell.now }
+    ensures value { option_copied result ≡ local_payload page.now cell.now }
+    ensures payload { IfSome result (λ bytes. (size : ℕ) (view : ℕ → Option (List ℕ)) → IsPayload size view page.now usable cell.now bytes.now) }
+{
+    lies_within(page, cell, usable);
+    if cell.spilled() != 0 {
+        return None;
+    }
+    Some(&page[cell.local_at as usize..(cell.local_at + cell.local) as usize])
 }
 
 /// The bytes of a piece, if there is one.

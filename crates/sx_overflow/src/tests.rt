@@ -223,3 +223,70 @@ fn a_short_chain_is_refused(rt: HostRuntime) -> Result<(), Fail> {
     assert!(rt; told.0.as_slice() == [39].as_slice() && told.1);
     Ok(())
 }
+
+#[test]
+fn bytes_are_appended_to_those_that_were_there(rt: HostRuntime) -> Result<(), Fail> {
+    let (page, third) = (leaf(&rt, &[0x83, 0x5e], 39), overflow_page(Some(0), 0x33));
+    for (link, short) in [(Some(3), false), (None, true)] {
+        let sheets = [
+            sheet(&page, None),
+            sheet(&page, Some(3)),
+            sheet(&third, link),
+        ];
+        let pages = Sheets::new(512, &sheets);
+        let cell = read_cell(Kind::TableLeaf, &page, AT, 512).map_err(|_| "no cell")?;
+        let payload = Payload::of(&pages, &page, &cell, 512);
+        assert!(rt; payload.is_whole() != short);
+        let mut bytes = vec![in rt.alloc(); 0x99u8; 1]?;
+        let refused = payload.gather_into(&mut bytes).err();
+        assert!(rt;
+            refused
+                == if short {
+                    Some(PayloadRefused::ShortChain)
+                } else {
+                    None
+                }
+        );
+        assert_eq!(rt; bytes.len(), if short { 1 } else { 479 });
+        assert_eq!(rt; bytes.last(), Some(if short { &0x99 } else { &0x33 }));
+    }
+    Ok(())
+}
+
+#[test]
+fn a_local_payload_is_a_borrow_of_its_page(rt: HostRuntime) -> Result<(), Fail> {
+    let page = leaf(&rt, &[0x83, 0x5d], 477);
+    let cell = read_cell(Kind::TableLeaf, &page, AT, 512).map_err(|_| "no cell")?;
+    assert!(rt; as_local(&page, &cell, 512) == Some(&page[15..492]));
+    let page = leaf(&rt, &[0x83, 0x5e], 39);
+    let cell = read_cell(Kind::TableLeaf, &page, AT, 512).map_err(|_| "no cell")?;
+    assert!(rt; as_local(&page, &cell, 512) == None);
+    Ok(())
+}
+
+#[test]
+fn chains_are_counted(rt: HostRuntime) {
+    let (third, fourth, fifth) = (
+        overflow_page(Some(4), 0x33),
+        overflow_page(Some(0), 0x44),
+        overflow_page(Some(5), 0x55),
+    );
+    let sheets = [
+        sheet(&third, None),
+        sheet(&third, None),
+        sheet(&third, Some(3)),
+        sheet(&fourth, Some(4)),
+        sheet(&fifth, Some(5)),
+    ];
+    let pages = Sheets::new(512, &sheets);
+    for (link, most, want) in [
+        (3, 9, 2),
+        (3, 1, 1),
+        (4, 9, 1),
+        (5, 9, 9),
+        (0, 9, 0),
+        (1, 9, 0),
+    ] {
+        assert_eq!(rt; chain_len(&pages, link, most), want, "from {link}");
+    }
+}

@@ -22,7 +22,7 @@ returns-then-not-is_within_held g c =
     c.self.inside.usable c.self.inside.link c.self.inside.left c.self.inside.local c.take.new.self c.args.self.now
     c.self.view_is none (c.take.ensures.after ∙ sym none) c.self.invariant.least (omega (arith, c.if-self-eq0.false))
     (enough (g.P.PageViews.pages c.self.inside.pages.now) (g.P.PageViews.view c.self.inside.pages.now) c.self.inside.usable c.self.inside.left
-    c.need_of-need.result c.is_within_held.result false c.need_of-need.ensures c.is_within_held.ensures c.if-not-is_within_held.true)
+    c.need_of-need.result c.is_within_held.result false c.need_of-need.ensures.value c.is_within_held.ensures c.if-not-is_within_held.true)
 
 pub returns-in_default-linked : goal.returns-in_default-linked
 returns-in_default-linked g c =
@@ -31,7 +31,7 @@ returns-in_default-linked g c =
     c.self.inside.usable c.self.inside.link c.self.inside.left c.self.inside.local c.take.new.self c.args.self.now
     c.self.view_is none (c.take.ensures.after ∙ sym none) c.self.invariant.least (omega (arith, c.if-self-eq0.false))
     (enough (g.P.PageViews.pages c.self.inside.pages.now) (g.P.PageViews.view c.self.inside.pages.now) c.self.inside.usable c.self.inside.left
-    c.need_of-need.result c.is_within_held.result true c.need_of-need.ensures c.is_within_held.ensures c.if-not-is_within_held.false) (sym c.in_default-linked.ensures.view)
+    c.need_of-need.result c.is_within_held.result true c.need_of-need.ensures.value c.is_within_held.ensures c.if-not-is_within_held.false) (sym c.in_default-linked.ensures.view)
 
 pub returns : goal.returns
 returns g c =
@@ -42,4 +42,4 @@ returns g c =
     c.in-Some-linked.page.now c.self.inside.local c.take.new.self c.args.self.now
     c.self.view_is none (c.take.ensures.after ∙ sym none) c.self.invariant.least (omega (arith, c.if-self-eq0.false))
     (enough (g.P.PageViews.pages c.self.inside.pages.now) (g.P.PageViews.view c.self.inside.pages.now) c.self.inside.usable c.self.inside.left
-    c.need_of-need.result c.is_within_held.result true c.need_of-need.ensures c.is_within_held.ensures c.if-not-is_within_held.false) (sym c.in-Some-linked.ensures.view) c.be32-self-inside.ensures c.min-len.ensures refl (omega arith)
+    c.need_of-need.result c.is_within_held.result true c.need_of-need.ensures.value c.is_within_held.ensures c.if-not-is_within_held.false) (sym c.in-Some-linked.ensures.view) c.be32-self-inside.ensures c.min-len.ensures refl (omega arith)
