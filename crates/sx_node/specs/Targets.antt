@@ -1,11 +1,25 @@
 -- The pages that a b-tree page names ("B-tree Pages", "Cell Payload Overflow Pages").
 use Rattle.std.specs.Prelude.{ℕ, ◌-◌, List, [], ◌∷◌, ◌++◌, Option, Some, None, Result, Ok, Err}
 use Rattle.std.specs.List.{flat_map, range_with_len}
+use Rattle.sx_base.specs.declared.role.Role.{Role}
+use Rattle.sx_base.specs.declared.role.Role.TheVariants.{Node, Overflow as OverflowRole}
 use Rattle.sx_cell.specs.declared.cell.Cell.{Cell}
 use Rattle.sx_cell.specs.declared.cell.CellFault.{CellFault}
 use Rattle.sx_node.specs.declared.targets.NodeTarget.{NodeTarget}
 use Rattle.sx_node.specs.declared.targets.NodeTarget.TheVariants.{Child, Overflow, Right}
 use Rattle.sx_node.specs.Nodes.{NodePage, cell_count, cell_in, right_child}
+
+-- the page that is named
+abbrev pub target_page : NodeTarget → ℕ
+target_page (Child index page) = page
+target_page (Overflow index page) = page
+target_page (Right page) = page
+
+-- what it is named as
+abbrev pub target_role : NodeTarget → Role
+target_role (Child index page) = Node
+target_role (Overflow index page) = OverflowRole
+target_role (Right page) = Node
 
 -- the child of a cell, if it has one
 abbrev pub child_target : ℕ → Option ℕ → List NodeTarget

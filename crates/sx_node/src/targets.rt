@@ -2,10 +2,11 @@
 ghost use Rattle.std.specs.Prelude.{◌≡◌, ◌+◌, ◌^◌, ◌<◌, ◌≤◌, [], ◌∷◌, ◌++◌, Ok, IfSome, MatchOption};
 ghost use Rattle.std.specs.Option.{option_to_list};
 ghost use Rattle.sx_node.specs.Nodes.{cell_count};
-ghost use Rattle.sx_node.specs.Targets.{cell_targets, cell_targets_from, targets_of};
+ghost use Rattle.sx_node.specs.Targets.{target_page, target_role, cell_targets, cell_targets_from, targets_of};
 
 use crate::node::Node;
 use std::marker::Model;
+use sx_base::Role;
 use sx_cell::Cell;
 
 /// A page that a b-tree page names. It may be any number of 4 bytes, also 0.
@@ -27,6 +28,29 @@ pub enum NodeTarget {
     },
     /// The right-most child, by its page number.
     Right(u32),
+}
+
+impl NodeTarget {
+    /// The number of the page that is named.
+    pub fn page(self) -> u32
+        ensures { result ≡ target_page self }
+    {
+        match self {
+            NodeTarget::Child { page, .. } => page,
+            NodeTarget::Overflow { page, .. } => page,
+            NodeTarget::Right(page) => page,
+        }
+    }
+
+    /// What it is named as: a page of a b-tree, or an overflow page.
+    pub fn role(self) -> Role
+        ensures { result ≡ target_role self }
+    {
+        match self {
+            NodeTarget::Child { .. } | NodeTarget::Right(_) => Role::Node,
+            NodeTarget::Overflow { .. } => Role::Overflow,
+        }
+    }
 }
 
 /// The pages that a b-tree page names and that are to come.

@@ -2,7 +2,7 @@
 use crate::{Node, NodeFault, NodeTarget, read_node};
 use std::process::Abort;
 use std::test::Fail;
-use sx_base::{Label, Span};
+use sx_base::{Label, Role, Span};
 use sx_cell::{Cell, CellFault, Kind};
 
 /// A leaf page of a table with three rows, the first at the end of the page.
@@ -265,6 +265,8 @@ fn an_interior_page_of_an_index_names_pages(rt: HostRuntime) -> Result<(), Fail>
         assert_eq!(rt; targets.next(), Some(target));
     }
     assert_eq!(rt; targets.next(), None);
+    assert_eq!(rt; (want[2].page(), want[2].role()), (9, Role::Overflow));
+    assert_eq!(rt; (want[3].page(), want[3].role()), (4, Role::Node));
     Ok(())
 }
 
