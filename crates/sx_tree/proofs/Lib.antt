@@ -1,0 +1,11 @@
+pub mod PartLemmas
+pub mod Leaves
+pub mod Numbers
+pub mod Entries
+pub mod Tallies
+pub mod Rounds
+pub mod Filling
+pub mod Ways
+pub mod Steps
+pub mod Depth
+pub mod Few
