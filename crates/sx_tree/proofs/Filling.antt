@@ -1,14 +1,15 @@
 -- The table is filled from the root on: its pages are those of the tree.
-use Rattle.std.proofs.Common.{◌≡◌, inl, inr, ℕ, ◌+◌, ◌<◌, ◌≤◌, Bool, true, false, ◌&&◌, List, [], ◌∷◌, ◌++◌, Option, Some, None, length, take, slice_get, get_or, is_some, filter, fold, nat_eq, nat_le, if◌then◌else◌, refl, sym, ap, subst, ◌∙◌, arith, append-nil, length-append}
+use Rattle.std.proofs.Common.{◌≡◌, inl, inr, ℕ, ◌+◌, ◌<◌, ◌≤◌, Bool, true, false, cond, ◌&&◌, List, [], ◌∷◌, ◌++◌, Option, Some, None, length, take, slice_get, get_or, is_some, filter, fold, nat_eq, nat_le, if◌then◌else◌, refl, sym, ap, subst, ◌∙◌, arith, append-nil, length-append}
 use Rattle.std.specs.List.{flat_map, IsDistinct}
 use Rattle.std.specs.Map.{lookup, keys_of}
 use Rattle.std.proofs.lemmas.Bool.{cases_lt}
-use Rattle.std.proofs.lemmas.List.{take-append-le, take_all, take_more, length-map}
+use Rattle.std.proofs.lemmas.List.{take-append-le, take_all, take_more}
 use Rattle.std.proofs.lemmas.List.Sums.{fold-append}
 use Rattle.std.proofs.lemmas.Option.{slice_get_within, slice_get-get_or, get_or_from_slice_get}
 use Rattle.sx_tree.specs.Trees.{Tree, IsBounded, is_held, view_children, children, names, named_by, held_count, tree_pages, references, times}
+use Rattle.std.proofs.lemmas.List.Elements.{filter-append}
 use Rattle.sx_tree.specs.Tables.{noted}
-use Rattle.sx_tree.specs.Walks.{said}
+use Rattle.sx_tree.specs.Walks.{said, has_some, namers}
 use Rattle.sx_tree.proofs.Numbers.{has, once_has, once_apart, filter_has}
 use Rattle.sx_tree.proofs.Tallies.{IsTally, mark, tally_of}
 use Rattle.sx_tree.proofs.Rounds.{names_more, named_grows, held_few, closure_is_tree, tree_closed}
@@ -73,10 +74,18 @@ found_case tree done n old new more grown within keys found below =
           omega (arith, all)
     ])
 
--- the children of one page more
-pub filling_more : (tree : Tree) (done q : ℕ) (table new : List (ℕ × Bool)) → IsFilling tree done table → slice_get (keys_of table) done ≡ Some q
-    → new ≡ fold (noted (is_held tree)) table (children tree q) → IsFilling tree (done + 1) new
-filling_more tree done q table new filling here is =
+-- how the table grows by the children of one page more
+record IsGrown (tree : Tree) (done q : ℕ) (table new : List (ℕ × Bool)) : Type 0 where
+  within : done < length (keys_of table)
+  made : new ≡ fold (noted (is_held tree)) [] (names tree (take (done + 1) (keys_of table)))
+  more : List ℕ
+  longer : keys_of new ≡ keys_of table ++ more
+  front : take (done + 1) (keys_of new) ≡ take (done + 1) (keys_of table)
+  taken : take (done + 1) (keys_of table) ≡ take done (keys_of table) ++ q ∷ []
+
+grown : (tree : Tree) (done q : ℕ) (table new : List (ℕ × Bool)) → IsFilling tree done table → slice_get (keys_of table) done ≡ Some q
+    → new ≡ fold (noted (is_held tree)) table (children tree q) → IsGrown tree done q table new
+grown tree done q table new filling here is =
     let keys = keys_of table in
     let before = take done keys in
     let note = noted (is_held tree) in
@@ -88,15 +97,57 @@ filling_more tree done q table new filling here is =
     = is ∙ ap (λ t. fold note t (children tree q)) filling.filled
     ∙ sym (fold-append note [] (names tree before) (children tree q)) ∙ ap (fold note []) all in
     let tally = subst (IsTally (is_held tree) (names tree (take (done + 1) keys))) (sym made) (tally_of (is_held tree) (names tree (take (done + 1) keys))) in
-    let grown = named_grows tree before (q ∷ []) in
-    let longer : keys_of new ≡ keys ++ grown.0
-    = tally.keys ∙ ap (named_by tree) taken ∙ grown.1 ∙ ap (λ l. l ++ grown.0) (sym (filling_keys tree done table filling)) in
-    let front : take (done + 1) (keys_of new) ≡ take (done + 1) keys = ap (take (done + 1)) longer ∙ take-append-le (done + 1) keys grown.0 (omega arith) in
+    let named = named_grows tree before (q ∷ []) in
+    let longer : keys_of new ≡ keys ++ named.0
+    = tally.keys ∙ ap (named_by tree) taken ∙ named.1 ∙ ap (λ l. l ++ named.0) (sym (filling_keys tree done table filling)) in
     record {
-      within = omega (arith, within, ap length longer, length-append keys grown.0);
-      filled = made ∙ ap (λ l. fold note [] (names tree l)) (sym front);
-      found = λ n below. found_case tree done n keys (keys_of new) grown.0 longer within (filling_keys tree done table filling) filling.found below;
+      within = within;
+      made = made;
+      more = named.0;
+      longer = longer;
+      front = ap (take (done + 1)) longer ∙ take-append-le (done + 1) keys named.0 (omega arith);
+      taken = taken;
     }
+
+-- the children of one page more
+pub filling_more : (tree : Tree) (done q : ℕ) (table new : List (ℕ × Bool)) → IsFilling tree done table → slice_get (keys_of table) done ≡ Some q
+    → new ≡ fold (noted (is_held tree)) table (children tree q) → IsFilling tree (done + 1) new
+filling_more tree done q table new filling here is =
+    let g = grown tree done q table new filling here is in
+    record {
+      within = omega (arith, g.within, ap length g.longer, length-append (keys_of table) g.more);
+      filled = g.made ∙ ap (λ l. fold (noted (is_held tree)) [] (names tree l)) (sym g.front);
+      found = λ n below. found_case tree done n (keys_of table) (keys_of new) g.more g.longer g.within (filling_keys tree done table filling) filling.found below;
+    }
+
+-- those of the first pages that name a child are fewer than this
+abbrev pub HasRoom : Tree → ℕ → List (ℕ × Bool) → ℕ → Type 0
+HasRoom tree done table room = length (namers tree (take done (keys_of table))) < room
+
+-- none before the first page
+pub room_start : (tree : Tree) (table : List (ℕ × Bool)) → HasRoom tree 0 table 1
+room_start tree table = omega arith
+
+-- a page that is counted, if it names a child
+one_namer : (some named : Bool) (q : ℕ) → (named ≡ false → some ≡ false) → length (cond some (q ∷ []) []) ≤ cond named 1 0
+one_namer true true q counted = omega arith
+one_namer false true q counted = omega arith
+one_namer true false q counted = let clash : true ≡ false = counted refl in absurd cc
+one_namer false false q counted = omega arith
+
+none_some : (numbers : List ℕ) → numbers ≡ [] → has_some numbers ≡ false
+none_some numbers none = ap has_some none
+
+pub room_more : (tree : Tree) (done q room more : ℕ) (named : Bool) (table new : List (ℕ × Bool)) → IsFilling tree done table → slice_get (keys_of table) done ≡ Some q
+    → new ≡ fold (noted (is_held tree)) table (children tree q) → HasRoom tree done table room → (named ≡ false → children tree q ≡ [])
+    → room + cond named 1 0 ≤ more → HasRoom tree (done + 1) new more
+room_more tree done q room more named table new filling here is before counted grows =
+    let g = grown tree done q table new filling here is in
+    let test = λ (number : ℕ). has_some (children tree number) in
+    let parts : namers tree (take (done + 1) (keys_of new)) ≡ namers tree (take done (keys_of table)) ++ filter test (q ∷ [])
+    = ap (namers tree) (g.front ∙ g.taken) ∙ filter-append test (take done (keys_of table)) (q ∷ []) in
+    let one = one_namer (has_some (children tree q)) named q (λ not. none_some (children tree q) (counted not)) in
+    omega (arith, ap length parts, length-append (namers tree (take done (keys_of table))) (filter test (q ∷ [])), one, before, grows)
 
 past_end : (keys : List ℕ) (n : ℕ) → slice_get keys n ≡ None → length keys ≤ n
 past_end keys n none =
@@ -145,10 +196,27 @@ pub children_noted : (tree : Tree) (q : ℕ) (table new : List (ℕ × Bool))
 unfolding children
 children_noted tree q table new is = is
 
-pub filling_len : (tree : Tree) (done : ℕ) (table : List (ℕ × Bool)) → IsBounded tree → IsFilling tree done table → slice_get (keys_of table) done ≡ None
-    → length table ≡ length (tree_pages tree)
-filling_len tree done table bounds filling none =
-    sym (length-map table (λ (e : ℕ × Bool). e.0)) ∙ ap length (filling_end tree done table bounds filling none)
+pub children_none : (tree : Tree) (q : ℕ) (named : Bool) → (named ≡ false → view_children tree.usable q (tree.view q) ≡ [])
+    → named ≡ false → children tree q ≡ []
+unfolding children
+children_none tree q named counted = counted
+
+-- a page more where one names some
+pub counted_one : (named : Bool) (room more : ℕ) → named ≡ true → more ≡ room + 1 → room + cond named 1 0 ≤ more
+counted_one true room more is counts = omega arith
+counted_one false room more is counts = let clash : false ≡ true = is in absurd cc
+
+pub counted_none : (named : Bool) (room more : ℕ) → named ≡ false → more ≡ room → room + cond named 1 0 ≤ more
+counted_none true room more is counts = let clash : true ≡ false = is in absurd cc
+counted_none false room more is counts = omega arith
+
+-- so there is room
+pub filling_room : (tree : Tree) (done room : ℕ) (table : List (ℕ × Bool)) → IsBounded tree → IsFilling tree done table → slice_get (keys_of table) done ≡ None
+    → HasRoom tree done table room → length (namers tree (tree_pages tree)) < room
+filling_room tree done room table bounds filling none few =
+    let pages : take done (keys_of table) ≡ tree_pages tree
+    = take_all done (keys_of table) (past_end (keys_of table) done none) ∙ filling_end tree done table bounds filling none in
+    subst (λ l. length (namers tree l) < room) pages few
 
 -- a key that was read
 pub key_here : (keys : List ℕ) (place q : ℕ) (found : Option ℕ) → found ≡ slice_get keys place → found ≡ Some q → slice_get keys place ≡ Some q

@@ -70,7 +70,7 @@ leaf_children node least within leaf =
     ∙ ap (λ right. flat_map child_in (cell_targets_from node 0) ++ flat_map child_in (right_target right)) (right_none node leaf)
     ∙ ap (λ l. l ++ []) (cells_case node (cell_count node - 0) 0 least within leaf)
 
-leaf_none : (usable number : ℕ) (view : Option (List ℕ)) (page : List ℕ) (node : NodePage) → view ≡ Some page → Ok node ≡ node_of page number usable
+pub leaf_none : (usable number : ℕ) (view : Option (List ℕ)) (page : List ℕ) (node : NodePage) → view ≡ Some page → Ok node ≡ node_of page number usable
     → IsNodeOf page number usable node → 480 ≤ usable → usable ≤ length page → has_child node.kind ≡ false → view_children usable number view ≡ []
 leaf_none usable number view page node is read found least within leaf =
     ap (view_children usable number) is

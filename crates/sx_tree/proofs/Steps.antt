@@ -18,10 +18,10 @@ use Rattle.sx_tree.specs.declared.parts.Part.TheVariants.{Item, Child}
 use Rattle.sx_tree.specs.Parts.{Visit, parts_of}
 use Rattle.sx_tree.specs.Trees.{Tree, IsBounded, is_held, children, names, held_count, tree_pages}
 use Rattle.sx_tree.specs.Rows.{opened, page_in, view_kind, root_kind, part_items, page_items, items_of, rows_of}
-use Rattle.sx_tree.specs.Walks.{come, to_come, part_turns, page_turns, turns_of, turns, named_from, top_of, IsVisit, IsWay, numbers_of, said, IsWalk, IsNamed, IsFollowed}
+use Rattle.sx_tree.specs.Walks.{come, to_come, part_turns, page_turns, turns_of, turns, named_from, top_of, IsVisit, IsWay, numbers_of, said, IsWalk, IsNamed, IsFollowed, namers}
 use Rattle.sx_tree.proofs.Numbers.{has, none_apart}
 use Rattle.sx_tree.proofs.Rounds.{tree_held, tree_few, flat_in, named_listed, root_named}
-use Rattle.sx_tree.proofs.Ways.{open_is, open_children, part_named, fresh, way_more, way_less, numbers_more, way_few, top_is, or_there}
+use Rattle.sx_tree.proofs.Ways.{open_is, open_children, part_named, fresh, way_more, way_less, numbers_more, way_few, way_room, top_is, or_there}
 
 -- ---- what the table says of a page that is named
 
@@ -192,8 +192,9 @@ walk_entered tree table kind way visit node q room more walk named listed entere
 pub walk_room : (tree : Tree) (table : List (ℕ × Bool)) (kind : Option Kind) (way : List Visit) (visit : Visit) (room : ℕ)
     → IsWalk tree table kind (way ++ visit ∷ []) room → length way < room
 walk_room tree table kind way visit room walk =
-    let few = way_few tree (way ++ visit ∷ []) walk.is_way walk.apart in
-    omega (arith, few, walk.enough, length-append way (visit ∷ []))
+    let apart = apart_less (numbers_of way) visit.number (subst (IsDistinct nat_eq) (numbers_more way visit) walk.apart) in
+    let few = way_room tree way visit walk.is_way apart in
+    omega (arith, few, walk.enough)
 
 pub walk_few : (tree : Tree) (table : List (ℕ × Bool)) (kind : Option Kind) (way : List Visit) (room : ℕ)
     → IsWalk tree table kind way room → length way ≤ held_count tree
@@ -460,7 +461,7 @@ root_refused tree way fault is empty =
 
 -- before the walk
 pub walk_start : (tree : Tree) (table : List (ℕ × Bool)) (kind : Option Kind) (room : ℕ) → IsBounded tree
-    → ((number : ℕ) → lookup (nat_eq number) table ≡ said tree number) → kind ≡ root_kind tree → length (tree_pages tree) ≤ room
+    → ((number : ℕ) → lookup (nat_eq number) table ≡ said tree number) → kind ≡ root_kind tree → length (namers tree (tree_pages tree)) < room
     → IsWalk tree table kind [] room
 walk_start tree table kind room bounds says same_kind enough =
     record { bounds = bounds; says = says; same_kind = same_kind; enough = enough; is_way = tt; apart = none_apart }

@@ -17,8 +17,8 @@ use Rattle.sx_tree.specs.Parts.{Visit, parts_of, child_of, part_children}
 use Rattle.sx_tree.proofs.Leaves.{parts_children}
 use Rattle.sx_tree.specs.Trees.{Tree, children, children_of, names, tree_pages, references, times}
 use Rattle.sx_tree.specs.Rows.{opened, page_in, sound_node, is_other_kind, root_kind}
-use Rattle.sx_tree.specs.Walks.{named_from, top_of, IsVisit, IsWay, numbers_of}
-use Rattle.sx_tree.proofs.Numbers.{has, times_append, times_cons, times_some}
+use Rattle.sx_tree.specs.Walks.{named_from, top_of, IsVisit, IsWay, numbers_of, has_some, namers}
+use Rattle.sx_tree.proofs.Numbers.{has, times_append, times_cons, times_some, filter_has}
 
 -- ---- a page that was opened
 
@@ -239,4 +239,42 @@ way_listed tree from (visit ∷ below) q way there =
 pub way_few : (tree : Tree) (way : List Visit) → IsWay tree None way → IsDistinct nat_eq (numbers_of way) → length way ≤ length (tree_pages tree)
 way_few tree way is apart =
     let few = length-le_from_is_member nat_eq_equiv (numbers_of way) (tree_pages tree) apart (λ q there. way_listed tree None way q is there) in
+    omega (arith, few, length-map way (λ (v : Visit). v.number))
+
+-- ---- each page of the way but the last names a child
+
+some_there : (numbers : List ℕ) (q : ℕ) → has numbers q ≡ true → has_some numbers ≡ true
+some_there [] q there = let clash : false ≡ true = there in cc
+some_there (number ∷ numbers) q there = refl
+
+-- the page behind the first is one of its children
+next_named : (tree : Tree) (first visit : Visit) (below : List Visit) → IsWay tree (Some first.number) (below ++ visit ∷ [])
+    → has_some (children tree first.number) ≡ true
+next_named tree first visit [] way = some_there (children tree first.number) visit.number way.0.named
+next_named tree first visit (next ∷ below) way = some_there (children tree first.number) next.number way.0.named
+
+namer_case : (tree : Tree) (first visit : Visit) (below : List Visit) (q : ℕ) (b : Bool) → nat_eq q first.number ≡ b
+    → IsWay tree (Some first.number) (below ++ visit ∷ []) → has (tree_pages tree) first.number ≡ true
+    → (b || has (numbers_of below) q) ≡ true → (has (numbers_of below) q ≡ true → has (namers tree (tree_pages tree)) q ≡ true)
+    → has (namers tree (tree_pages tree)) q ≡ true
+namer_case tree first visit below q true same way listed there rest =
+    let one : q ≡ first.number = eqb-true q first.number same in
+    let some = next_named tree first visit below way in
+    ap (has (namers tree (tree_pages tree))) one
+    ∙ filter_has (λ number. has_some (children tree number)) (tree_pages tree) first.number
+    ∙ rw (listed, some) refl
+namer_case tree first visit below q false same way listed there rest = rest there
+
+way_names : (tree : Tree) (from : Option ℕ) (way : List Visit) (visit : Visit) (q : ℕ) → IsWay tree from (way ++ visit ∷ [])
+    → has (numbers_of way) q ≡ true → has (namers tree (tree_pages tree)) q ≡ true
+way_names tree from [] visit q way there = let clash : false ≡ true = there in cc
+way_names tree from (first ∷ below) visit q way there =
+    namer_case tree first visit below q (nat_eq q first.number) refl way.1 way.0.listed there
+    (λ in_rest. way_names tree (Some first.number) below visit q way.1 in_rest)
+
+-- so these are no more than the pages that do
+pub way_room : (tree : Tree) (way : List Visit) (visit : Visit) → IsWay tree None (way ++ visit ∷ []) → IsDistinct nat_eq (numbers_of way)
+    → length way ≤ length (namers tree (tree_pages tree))
+way_room tree way visit is apart =
+    let few = length-le_from_is_member nat_eq_equiv (numbers_of way) (namers tree (tree_pages tree)) apart (λ q there. way_names tree None way visit q is there) in
     omega (arith, few, length-map way (λ (v : Visit). v.number))

@@ -1,5 +1,5 @@
 -- A walk through a tree: the pages on its way, from the root down to the page in hand, each with its parts that are to come.
-use Rattle.std.specs.Prelude.{◌≡◌, if◌then◌else◌, ℕ, zero, suc, ◌+◌, ◌-◌, ◌<◌, ◌≤◌, Bool, true, nat_le, nat_eq, List, [], ◌∷◌, ◌++◌, length, map, Option, Some, None, Result, Ok, Err}
+use Rattle.std.specs.Prelude.{◌≡◌, if◌then◌else◌, ℕ, zero, suc, ◌+◌, ◌-◌, ◌<◌, ◌≤◌, Bool, true, false, filter, nat_le, nat_eq, List, [], ◌∷◌, ◌++◌, length, map, Option, Some, None, Result, Ok, Err}
 use Rattle.std.specs.List.{flat_map, sum_by, list_any, IsDistinct}
 use Rattle.std.specs.Map.{lookup}
 use Rattle.std.specs.Option.{option_to_list}
@@ -72,12 +72,22 @@ numbers_of way = map (λ visit. visit.number) way
 abbrev pub said : Tree → ℕ → Option Bool
 said tree number = if list_any (nat_eq number) (tree_pages tree) then Some (nat_le 2 (references tree number)) else None
 
--- what a walk keeps: its table is that of the tree, and its way is one through the tree with room for all its pages
+-- a list has some number
+abbrev pub has_some : List ℕ → Bool
+has_some [] = false
+has_some (number ∷ numbers) = true
+
+-- those of these pages that name a child
+abbrev pub namers : Tree → List ℕ → List ℕ
+namers tree pages = filter (λ number. has_some (children tree number)) pages
+
+-- what a walk keeps: its table is that of the tree, and its way is one through the tree, with room for a page below
+-- all that name a child
 pub record IsWalk (tree : Tree) (table : List (ℕ × Bool)) (kind : Option Kind) (way : List Visit) (room : ℕ) : Type 0 where
   pub bounds : IsBounded tree
   pub says : (number : ℕ) → lookup (nat_eq number) table ≡ said tree number
   pub same_kind : kind ≡ root_kind tree
-  pub enough : length (tree_pages tree) ≤ room
+  pub enough : length (namers tree (tree_pages tree)) < room
   pub is_way : IsWay tree None way
   pub apart : IsDistinct nat_eq (numbers_of way)
 

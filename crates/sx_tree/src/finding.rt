@@ -1,17 +1,18 @@
 //! The pages of a tree, found from the root on.
-ghost use Rattle.std.specs.Prelude.{◌≡◌, ℕ, ◌≤◌, List, length, fold, is_some, nat_eq, option_copied, OnOk, IfOk};
+ghost use Rattle.std.specs.Prelude.{◌≡◌, ℕ, ◌<◌, ◌≤◌, [], false, List, length, fold, is_some, nat_eq, option_copied, OnOk, IfOk};
 ghost use Rattle.std.specs.List.{flat_map};
 ghost use Rattle.std.specs.Map.{lookup};
 ghost use Rattle.sx_tree.specs.Trees.{child_in, view_children, tree_in, tree_pages};
 ghost use Rattle.sx_tree.specs.Tables.{noted};
-ghost use Rattle.sx_tree.specs.Walks.{said};
+ghost use Rattle.sx_tree.specs.Walks.{said, namers};
 
 use crate::table::Table;
 use std::alloc::{AllocError, Global};
 use sx_base::Pages;
 use sx_node::{NodeTarget, Targets, read_node};
 
-/// The held pages of the tree with that root, and whether each is named more than once.
+/// The held pages of the tree with that root, and whether each is named more than once; and how many pages stand one below
+/// the other at most.
 ///
 /// The table is the queue too: each page stands in it once, where it was named first, and its children are noted when its
 /// turn comes. Each page is read once, each name is a look-up of the page and of the table, and no cell of a leaf is read.
@@ -20,47 +21,53 @@ pub(crate) fn pages_of_tree<'a, P: Pages<'a>>(
     pages: &P,
     usable: u32,
     root: u32,
-) -> Result<Table, AllocError>
+) -> Result<(Table, usize), AllocError>
     requires least { 480 ≤ usable }
     requires within { usable ≤ P.page_size pages.now }
     requires small { P.page_size pages.now ≤ 65536 }
-    ensures says { IfOk result (λ table. (number : ℕ) → lookup (nat_eq number) table ≡ said (tree_in (P.pages pages.now) (P.view pages.now) usable root) number) }
-    ensures len { IfOk result (λ table. length table ≡ length (tree_pages (tree_in (P.pages pages.now) (P.view pages.now) usable root))) }
+    ensures says { IfOk result (λ found. (number : ℕ) → lookup (nat_eq number) found.0 ≡ said (tree_in (P.pages pages.now) (P.view pages.now) usable root) number) }
+    ensures room { IfOk result (λ found. length (namers (tree_in (P.pages pages.now) (P.view pages.now) usable root) (tree_pages (tree_in (P.pages pages.now) (P.view pages.now) usable root))) < found.1) }
 {
     let _size = pages.size();
     let mut table = Table::new(alloc);
     note(pages, &mut table, root)?;
     let mut done = 0;
+    // Each page of a way but the last names the one below it.
+    let mut room = 1;
     while let Some(no) = table.page_at(done) {
-        note_children(pages, usable, &mut table, no)?;
+        if note_children(pages, usable, &mut table, no)? {
+            room += 1;
+        }
         done += 1;
     }
-    Ok(table)
+    Ok((table, room))
 }
 
-/// Notes the children that page `no` names.
-#[tactic(auto, using(crate::proofs::Leaves::leaf_noted))]
+/// Notes the children that page `no` names, and answers whether it may name some.
+#[tactic(auto, using(crate::proofs::Leaves::leaf_noted, crate::proofs::Leaves::leaf_none))]
 fn note_children<'a, P: Pages<'a>>(
     pages: &P,
     usable: u32,
     table: &mut Table,
     no: u32,
-) -> Result<(), AllocError>
+) -> Result<bool, AllocError>
     requires least { 480 ≤ usable }
     requires within { usable ≤ P.page_size pages.now }
     requires small { P.page_size pages.now ≤ 65536 }
     ensures ok { OnOk result (table.new ≡ fold (noted (λ number. is_some (P.view pages.now number))) table.old (view_children usable no (P.view pages.now no))) }
+    ensures none { IfOk result (λ named. named ≡ false → view_children usable no (P.view pages.now no) ≡ []) }
 {
     let Some(page) = pages.page(no) else {
-        return Ok(());
+        return Ok(false);
     };
     let Ok(node) = read_node(page, no, usable) else {
-        return Ok(());
+        return Ok(false);
     };
     if !node.kind().has_child() {
-        return Ok(());
+        return Ok(false);
     }
-    note_targets(pages, table, node.targets())
+    note_targets(pages, table, node.targets())?;
+    Ok(true)
 }
 
 /// Notes the children among the pages that are named.

@@ -66,9 +66,9 @@ impl<'p, 'a, P: Pages<'a>> Rows<'p, 'a, P> {
         ensures few { IfOk result (λ rows. length rows < 2 ^ 64) }
     {
         let _size = pages.size();
-        let table = pages_of_tree(alloc, pages, usable, root)?;
+        let (table, room) = pages_of_tree(alloc, pages, usable, root)?;
         let kind = kind_at(pages, usable, root);
-        let mut way: Vec<Parts<'a>> = Vec::with_capacity(alloc, table.len())?;
+        let mut way: Vec<Parts<'a>> = Vec::with_capacity(alloc, room)?;
         let fault = enter_root(pages, usable, root, kind, &table, &mut way);
         Ok(Rows {
             pages,

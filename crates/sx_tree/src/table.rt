@@ -1,5 +1,5 @@
 //! The pages of a tree, as they are named.
-ghost use Rattle.std.specs.Prelude.{◌≡◌, ◌^◌, ◌<◌, [], length, nat_eq, slice_get, OnOk};
+ghost use Rattle.std.specs.Prelude.{◌≡◌, ◌^◌, ◌<◌, [], nat_eq, slice_get, OnOk};
 ghost use Rattle.std.specs.Map.{lookup, keys_of};
 ghost use Rattle.sx_tree.specs.Tables.{with_name};
 
@@ -72,12 +72,5 @@ impl Table {
         ensures { result ≡ lookup (nat_eq no) self.now }
     {
         self.again.get(&no).copied()
-    }
-
-    /// How many pages were named.
-    pub(crate) fn len(&self) -> usize
-        ensures { result ≡ length self.now }
-    {
-        self.order.len()
     }
 }

@@ -1,6 +1,6 @@
-use Rattle.std.proofs.Common.{◌-◌}
+use Rattle.std.proofs.Common.{◌+◌, ◌-◌, ◌≤◌}
 use Rattle.sx_tree.specs.Trees.{tree_in, held_count, IsBounded}
-use Rattle.sx_tree.proofs.Filling.{IsFilling}
+use Rattle.sx_tree.proofs.Filling.{IsFilling, HasRoom}
 use Rattle.sx_tree.proofs.finding.pages_of_tree.Given as goal
 
 abbrev pub invariant-loop-no : goal.invariant-loop-no
@@ -9,6 +9,8 @@ invariant-loop-no g l =
     record {
       bounds : IsBounded tree;
       filling : IsFilling tree l.done l.table;
+      room : HasRoom tree l.done l.table l.room;
+      few : l.room ≤ l.done + 1;
     }
 
 abbrev pub decreases-loop-no : goal.decreases-loop-no
