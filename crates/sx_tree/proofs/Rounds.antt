@@ -11,7 +11,7 @@ use Rattle.std.proofs.lemmas.Bool.{cases_lt}
 use Rattle.std.proofs.lemmas.Cmp.{nat_eq_equiv}
 use Rattle.std.proofs.lemmas.Map.Made.{length-le_from_is_member}
 use Rattle.sx_base.specs.Held.{held_pages}
-use Rattle.sx_tree.specs.Trees.{Tree, IsBounded, is_held, children, names, each_once, named_by, rounds, held_count, tree_pages}
+use Rattle.sx_tree.specs.Trees.{Tree, IsBounded, is_held, children, names, each_once, named_by, rounds, held_count, tree_pages, stands_in, IsClosed}
 use Rattle.sx_tree.proofs.Numbers.{has, none_apart, once_grows, once_has, once_apart, filter_has}
 
 pub names_more : (tree : Tree) (some more : List ℕ) → names tree (some ++ more) ≡ names tree some ++ flat_map (children tree) more
@@ -278,10 +278,10 @@ named_listed tree q bounds named held =
 pub root_named : (tree : Tree) → has (names tree (tree_pages tree)) tree.root ≡ true
 root_named tree = rw (eq-eqb tree.root tree.root refl) refl
 
-pub tree_root : (tree : Tree) → IsBounded tree → is_held tree tree.root ≡ true → has (tree_pages tree) tree.root ≡ true
+tree_root : (tree : Tree) → IsBounded tree → is_held tree tree.root ≡ true → has (tree_pages tree) tree.root ≡ true
 tree_root tree bounds held = named_listed tree tree.root bounds (root_named tree) held
 
-pub tree_child : (tree : Tree) (page child : ℕ) → IsBounded tree → has (tree_pages tree) page ≡ true → has (children tree page) child ≡ true
+tree_child : (tree : Tree) (page child : ℕ) → IsBounded tree → has (tree_pages tree) page ≡ true → has (children tree page) child ≡ true
     → is_held tree child ≡ true → has (tree_pages tree) child ≡ true
 tree_child tree page child bounds there named held =
     named_listed tree child bounds (right (nat_eq child tree.root) (flat_in (children tree) (tree_pages tree) page child there named)) held
@@ -314,8 +314,18 @@ round_least tree set root child (suc n) q there =
     both_true true b is = refl
     both_true false b is = let clash : false ≡ true = is in cc
 
-pub tree_least : (tree : Tree) (set : ℕ → Bool) → (is_held tree tree.root ≡ true → set tree.root ≡ true)
+least_pages : (tree : Tree) (set : ℕ → Bool) → (is_held tree tree.root ≡ true → set tree.root ≡ true)
     → ((page child : ℕ) → set page ≡ true → has (children tree page) child ≡ true → is_held tree child ≡ true → set child ≡ true)
     → (number : ℕ) → has (tree_pages tree) number ≡ true → set number ≡ true
 unfolding tree_pages
-tree_least tree set root child number there = round_least tree set root child (held_count tree) number there
+least_pages tree set root child number there = round_least tree set root child (held_count tree) number there
+
+-- the pages of a tree are closed, and in each closed set
+pub tree_is_closed : (tree : Tree) → IsBounded tree → IsClosed tree (stands_in (tree_pages tree))
+tree_is_closed tree bounds = record {
+  root = tree_root tree bounds;
+  child = λ page child. tree_child tree page child bounds;
+}
+
+pub tree_is_least : (tree : Tree) (set : ℕ → Bool) (number : ℕ) → IsClosed tree set → stands_in (tree_pages tree) number ≡ true → set number ≡ true
+tree_is_least tree set number closed there = least_pages tree set closed.root closed.child number there

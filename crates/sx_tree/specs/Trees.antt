@@ -56,12 +56,12 @@ abbrev pub names : Tree → List ℕ → List ℕ
 names tree pages = tree.root ∷ flat_map (children tree) pages
 
 -- a number stands in a list
-abbrev pub IsNumberIn : List ℕ → ℕ → Type 0
-IsNumberIn numbers number = list_any (nat_eq number) numbers ≡ true
+abbrev pub stands_in : List ℕ → ℕ → Bool
+stands_in numbers number = list_any (nat_eq number) numbers
 
 -- a number more, unless it is there
 abbrev pub with_number : List ℕ → ℕ → List ℕ
-with_number numbers number = if list_any (nat_eq number) numbers then numbers else numbers ++ number ∷ []
+with_number numbers number = if stands_in numbers number then numbers else numbers ++ number ∷ []
 
 -- each number of a list once, where it stands first
 unfoldable pub each_once : List ℕ → List ℕ
@@ -91,3 +91,8 @@ times number numbers = count_by (nat_eq number) numbers
 -- how often a page is named: as a child by the pages of the tree, and once more as the root
 unfoldable pub references : Tree → ℕ → ℕ
 references tree number = times number (names tree (tree_pages tree))
+
+-- a set of pages has the root, if it is held, and with each of its pages the held children that this one names
+pub record IsClosed (tree : Tree) (set : ℕ → Bool) : Type 0 where
+  pub root : is_held tree tree.root ≡ true → set tree.root ≡ true
+  pub child : (page child : ℕ) → set page ≡ true → stands_in (children tree page) child ≡ true → is_held tree child ≡ true → set child ≡ true

@@ -81,6 +81,11 @@ has_some (number ∷ numbers) = true
 abbrev pub namers : Tree → List ℕ → List ℕ
 namers tree pages = filter (λ number. has_some (children tree number)) pages
 
+-- the pages of a tree were found: the table says of each what is so, and there is room for a page below all that name a child
+pub record IsFound (tree : Tree) (table : List (ℕ × Bool)) (room : ℕ) : Type 0 where
+  pub says : (number : ℕ) → lookup (nat_eq number) table ≡ said tree number
+  pub enough : length (namers tree (tree_pages tree)) < room
+
 -- what a walk keeps: its table is that of the tree, and its way is one through the tree, with room for a page below
 -- all that name a child
 pub record IsWalk (tree : Tree) (table : List (ℕ × Bool)) (kind : Option Kind) (way : List Visit) (room : ℕ) : Type 0 where

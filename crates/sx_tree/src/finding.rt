@@ -1,10 +1,9 @@
 //! The pages of a tree, found from the root on.
 ghost use Rattle.std.specs.Prelude.{◌≡◌, ℕ, ◌<◌, ◌≤◌, [], false, List, length, fold, is_some, nat_eq, option_copied, OnOk, IfOk};
 ghost use Rattle.std.specs.List.{flat_map};
-ghost use Rattle.std.specs.Map.{lookup};
-ghost use Rattle.sx_tree.specs.Trees.{child_in, view_children, tree_in, tree_pages};
+ghost use Rattle.sx_tree.specs.Trees.{child_in, view_children, tree_in};
 ghost use Rattle.sx_tree.specs.Tables.{noted};
-ghost use Rattle.sx_tree.specs.Walks.{said, namers};
+ghost use Rattle.sx_tree.specs.Walks.{IsFound};
 
 use crate::table::Table;
 use std::alloc::{AllocError, Global};
@@ -25,8 +24,7 @@ pub(crate) fn pages_of_tree<'a, P: Pages<'a>>(
     requires least { 480 ≤ usable }
     requires within { usable ≤ P.page_size pages.now }
     requires small { P.page_size pages.now ≤ 65536 }
-    ensures says { IfOk result (λ found. (number : ℕ) → lookup (nat_eq number) found.0 ≡ said (tree_in (P.pages pages.now) (P.view pages.now) usable root) number) }
-    ensures room { IfOk result (λ found. length (namers (tree_in (P.pages pages.now) (P.view pages.now) usable root) (tree_pages (tree_in (P.pages pages.now) (P.view pages.now) usable root))) < found.1) }
+    ensures { IfOk result (λ found. IsFound (tree_in (P.pages pages.now) (P.view pages.now) usable root) found.0 found.1) }
 {
     let _size = pages.size();
     let mut table = Table::new(alloc);

@@ -2,17 +2,16 @@
 ghost use Rattle.std.specs.Prelude.{◌≡◌, ℕ, ◌+◌, ◌≤◌, Bool, true};
 ghost use Rattle.sx_node.specs.Nodes.{NodePage};
 ghost use Rattle.sx_tree.specs.Parts.{part_children};
-ghost use Rattle.sx_tree.specs.Trees.{Tree, IsBounded, IsNumberIn, is_held, children_of, children, held_count, rounds, tree_pages};
+ghost use Rattle.sx_tree.specs.Trees.{Tree, IsBounded, IsClosed, stands_in, children_of, held_count, rounds, tree_pages};
 ghost use Rattle.sx_tree.specs.Rows.{items_of, rows_of};
 
 /// The pages of a tree are the least set that has the root, where it is held, and with each page the held pages among the
 /// children that it names. As many rounds as pages are held find them, and more find no other. This is a law of the
 /// definitions; the function has no code.
-#[tactic(auto, using(crate::proofs::Rounds::tree_root, crate::proofs::Rounds::tree_child, crate::proofs::Rounds::tree_least, crate::proofs::Rounds::more_rounds))]
+#[tactic(auto, using(crate::proofs::Rounds::tree_is_closed, crate::proofs::Rounds::tree_is_least, crate::proofs::Rounds::more_rounds))]
 pub fn pages_are_least()
-    ensures root { (tree : Tree) → IsBounded tree → is_held tree tree.root ≡ true → IsNumberIn (tree_pages tree) tree.root }
-    ensures child { (tree : Tree) (page child : ℕ) → IsBounded tree → IsNumberIn (tree_pages tree) page → IsNumberIn (children tree page) child → is_held tree child ≡ true → IsNumberIn (tree_pages tree) child }
-    ensures least { (tree : Tree) (set : ℕ → Bool) → (is_held tree tree.root ≡ true → set tree.root ≡ true) → ((page child : ℕ) → set page ≡ true → IsNumberIn (children tree page) child → is_held tree child ≡ true → set child ≡ true) → (number : ℕ) → IsNumberIn (tree_pages tree) number → set number ≡ true }
+    ensures closed { (tree : Tree) → IsBounded tree → IsClosed tree (stands_in (tree_pages tree)) }
+    ensures least { (tree : Tree) (set : ℕ → Bool) (number : ℕ) → IsClosed tree set → stands_in (tree_pages tree) number ≡ true → set number ≡ true }
     ensures enough { (tree : Tree) (n : ℕ) → IsBounded tree → held_count tree ≤ n → rounds tree n ≡ tree_pages tree }
 {}
 

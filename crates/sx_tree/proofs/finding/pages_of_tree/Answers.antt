@@ -57,16 +57,15 @@ loop-no-preserved g c =
       ];
     }
 
-pub returns-clause-says : goal.returns-clause-says
-returns-clause-says g c =
+pub returns : goal.returns
+returns g c =
     let tree = tree_in (g.P.PageViews.pages c.args.pages.now) (g.P.PageViews.view c.args.pages.now) c.args.usable c.args.root in
-    filling_says tree c.loop-no.done c.loop-no.table c.loop-no.invariant.bounds c.loop-no.invariant.filling (sym c.page_at.ensures ∙ c.in_default.is)
-
-pub returns-clause-room : goal.returns-clause-room
-returns-clause-room g c =
-    let tree = tree_in (g.P.PageViews.pages c.args.pages.now) (g.P.PageViews.view c.args.pages.now) c.args.usable c.args.root in
-    filling_room tree c.loop-no.done c.loop-no.room c.loop-no.table c.loop-no.invariant.bounds c.loop-no.invariant.filling (sym c.page_at.ensures ∙ c.in_default.is)
-    c.loop-no.invariant.room
+    let none = sym c.page_at.ensures ∙ c.in_default.is in
+    record {
+      says = filling_says tree c.loop-no.done c.loop-no.table c.loop-no.invariant.bounds c.loop-no.invariant.filling none;
+      enough = filling_room tree c.loop-no.done c.loop-no.room c.loop-no.table c.loop-no.invariant.bounds c.loop-no.invariant.filling none
+          c.loop-no.invariant.room;
+    }
 
 pub overflow_add-room : goal.overflow_add-room
 overflow_add-room g c =

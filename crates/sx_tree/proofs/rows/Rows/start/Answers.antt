@@ -12,7 +12,7 @@ enter_root-fault-requires g c κs =
     let tree = tree_in (g.P.PageViews.pages c.args.pages.now) (g.P.PageViews.view c.args.pages.now) c.args.usable c.args.root in
     let bounds = bounds_are tree c.size-size.result c.size-size.ensures.size c.size-size.ensures.within c.size-size.ensures.from_one in
     let room : length (namers tree (tree_pages tree)) < vec_capacity c.in_ok-way.way
-    = omega (arith, c.in_ok-table.ensures.room, c.in_ok-way.ensures.capacity) in
+    = omega (arith, c.in_ok-table.ensures.enough, c.in_ok-way.ensures.capacity) in
     let walk = walk_start tree c.in_ok-table.table c.kind_at-kind.result (vec_capacity c.in_ok-way.way) bounds
     c.in_ok-table.ensures.says (kind_is tree c.kind_at-kind.result c.kind_at-kind.ensures) room in
     ((refl, tt), (c.requires.least, (c.requires.within, (c.requires.small, (walk, c.in_ok-way.ensures.items)))))
