@@ -8,6 +8,7 @@ use Rattle.sx_cell.specs.declared.cell.Kind.TheVariants.{TableLeaf, TableInner, 
 use Rattle.sx_cell.specs.declared.cell.Cell.{Cell}
 use Rattle.sx_cell.specs.declared.cell.CellFault.{CellFault}
 use Rattle.sx_cell.specs.Kinds.{has_child}
+use Rattle.sx_cell.specs.Local.{spilled}
 use Rattle.sx_cell.proofs.CellLemmas.{has_ranges}
 use Rattle.sx_node.specs.Nodes.{NodePage, IsNodeOf, node_of, cell_count, cell_in, pointer_at, right_child}
 use Rattle.sx_node.specs.Targets.{child_target, overflow_target, cell_targets, cell_targets_from, right_target}
@@ -16,9 +17,9 @@ use Rattle.sx_tree.specs.Tables.{noted}
 use Rattle.sx_tree.specs.Trees.{child_in, children_of, node_children, view_children}
 
 -- ---- of a cell the child alone is one
-overflow_none : (index : ℕ) (page : Option ℕ) → flat_map child_in (overflow_target index page) ≡ []
-overflow_none index None = refl
-overflow_none index (Some page) = refl
+overflow_none : (index rest : ℕ) (page : Option ℕ) → flat_map child_in (overflow_target index rest page) ≡ []
+overflow_none index rest None = refl
+overflow_none index rest (Some page) = refl
 
 abbrev listed : Option ℕ → List ℕ
 listed None = []
@@ -34,9 +35,9 @@ right_listed (Some page) = refl
 
 cell_listed : (index : ℕ) (cell : Cell) → flat_map child_in (cell_targets index (Ok cell)) ≡ listed cell.child ++ []
 cell_listed index cell =
-    flat_map-append child_in (child_target index cell.child) (overflow_target index cell.overflow)
-    ∙ ap (λ l. l ++ flat_map child_in (overflow_target index cell.overflow)) (child_listed index cell.child)
-    ∙ ap (λ l. listed cell.child ++ l) (overflow_none index cell.overflow)
+    flat_map-append child_in (child_target index cell.child) (overflow_target index (spilled cell) cell.overflow)
+    ∙ ap (λ l. l ++ flat_map child_in (overflow_target index (spilled cell) cell.overflow)) (child_listed index cell.child)
+    ∙ ap (λ l. listed cell.child ++ l) (overflow_none index (spilled cell) cell.overflow)
 
 -- ---- a leaf page names no child
 child_case : (child : Option ℕ) (leaf : Bool) → leaf ≡ false → (IsSome child → IsTrue leaf) → listed child ≡ []
