@@ -9,7 +9,8 @@ use Rattle.sx_wal.specs.Checksum.{Sums, sums_of}
 use Rattle.sx_wal.specs.declared.state.WalState.{WalState}
 use Rattle.sx_wal.specs.declared.state.WalState.TheVariants.{Good}
 use Rattle.sx_wal.specs.State.{is_big, header_sums, state_of, is_good}
-use Rattle.sx_wal.specs.Frames.{frame_len, frame_at, whole_frames, covered, running_sums, agrees, fits, first_fit, run_of}
+use Rattle.sx_wal.specs.Frames.{frame_len, frame_at, whole_frames, covered, running_sums, agrees, fits, first_fit}
+use Rattle.sx_wal.specs.Walk.{run_of}
 use Rattle.sx_wal.proofs.ChecksumLemmas.{sums-append}
 use Rattle.sx_wal.proofs.FrameLemmas.{frame_within, whole_pairs}
 use Rattle.sx_wal.proofs.Ranges.{range_more, all_more}

@@ -12,8 +12,9 @@ use Rattle.sx_wal.specs.declared.slot.Slot.{Slot}
 use Rattle.sx_wal.specs.declared.state.WalState.{WalState}
 use Rattle.sx_wal.specs.Checksum.{Sums}
 use Rattle.sx_wal.specs.State.{state_of, has_slots}
-use Rattle.sx_wal.specs.Frames.{whole_frames, slot_count, is_valid, run_of}
-use Rattle.sx_wal.specs.Wal.{is_commit, commits_of, is_within, class_of, slot_of, slot_past, as_committed, wal, bare, log_of, IsIndex}
+use Rattle.sx_wal.specs.Frames.{whole_frames, slot_count, is_valid}
+use Rattle.sx_wal.specs.Wal.{is_commit, commits_of, is_within, class_of, slot_of, wal, bare, log_of, IsIndex}
+use Rattle.sx_wal.specs.Walk.{run_of, slot_past, as_committed}
 use Rattle.sx_wal.proofs.Ranges.{range_more}
 use Rattle.sx_wal.proofs.RunLemmas.{fit_below}
 

@@ -55,7 +55,3 @@ first_fit page_size bytes n =
 -- slot i is valid: it fits, and each slot before it
 abbrev pub is_valid : ℕ → List ℕ → ℕ → Bool
 is_valid page_size bytes i = first_fit page_size bytes (i + 1)
-
--- the sums that a walk over the frames carries: those of the first n, while each of these fits
-unfoldable pub run_of : ℕ → List ℕ → ℕ → Option Sums
-run_of page_size bytes n = if first_fit page_size bytes n then Some (running_sums page_size bytes n) else None

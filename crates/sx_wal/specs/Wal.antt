@@ -52,14 +52,6 @@ slot_with page_size bytes i class = record {
 unfoldable pub slot_of : ℕ → List ℕ → ℕ → Slot
 slot_of page_size bytes i = slot_with page_size bytes i (class_of page_size bytes i)
 
--- slot i while no commit at it or past it is known
-unfoldable pub slot_past : ℕ → List ℕ → ℕ → Slot
-slot_past page_size bytes i = slot_with page_size bytes i (class_past page_size bytes i)
-
--- a slot that turned out to be at or below a commit
-abbrev pub as_committed : Slot → Slot
-as_committed slot = record slot { class = Committed }
-
 -- a log, seen as lists
 pub record Wal : Type 0 where
   pub state : WalState

@@ -3,8 +3,9 @@ ghost use Rattle.std.specs.Prelude.{◌≡◌, ◌+◌, ◌≤◌, ◌<◌, ◌^
 ghost use Rattle.sx_bytes.specs.PageSize.{IsPageSize};
 ghost use Rattle.sx_wal.specs.Checksum.{sums_of};
 ghost use Rattle.sx_wal.specs.State.{is_big, two_words_at, are_same};
-ghost use Rattle.sx_wal.specs.Frames.{frame_len, frame_at, whole_frames, covered, has_salts, agrees, run_of, is_valid};
-ghost use Rattle.sx_wal.specs.Wal.{is_commit, class_past, slot_past};
+ghost use Rattle.sx_wal.specs.Frames.{frame_len, frame_at, whole_frames, covered, has_salts, agrees, is_valid};
+ghost use Rattle.sx_wal.specs.Wal.{is_commit, class_past};
+ghost use Rattle.sx_wal.specs.Walk.{run_of, slot_past};
 
 use crate::checksum::sums;
 use crate::slot::Slot;
@@ -121,7 +122,7 @@ impl<'a> Log<'a> {
     }
 
     /// Slot `i`, valid or not, while no commit at it or past it is known.
-    #[tactic(auto, unfolding(crate::specs::Wal::slot_past, crate::specs::Wal::class_past))]
+    #[tactic(auto, unfolding(crate::specs::Walk::slot_past, crate::specs::Wal::class_past))]
     pub fn slot(&self, i: usize, valid: bool) -> Slot
         requires within { i < whole_frames self.now.page_size self.now.bytes.now }
         requires tested { valid ≡ is_valid self.now.page_size self.now.bytes.now i }

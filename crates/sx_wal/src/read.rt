@@ -3,8 +3,8 @@ ghost use Rattle.std.specs.Prelude.{◌≡◌, ◌<◌, ◌≤◌, ◌^◌, ◌+
 ghost use Rattle.std.specs.Option.{option_map, ForSome};
 ghost use Rattle.sx_bytes.specs.PageSize.{IsPageSize};
 ghost use Rattle.sx_wal.specs.State.{state_of, is_good, has_slots};
-ghost use Rattle.sx_wal.specs.Frames.{run_of};
-ghost use Rattle.sx_wal.specs.Wal.{as_committed, log_of, wal_of, bare};
+ghost use Rattle.sx_wal.specs.Wal.{log_of, wal_of, bare};
+ghost use Rattle.sx_wal.specs.Walk.{run_of, as_committed};
 
 use crate::index::WalIndex;
 use crate::log::Log;

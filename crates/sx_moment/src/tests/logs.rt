@@ -270,3 +270,31 @@ fn a_view_outlives_its_snapshot(rt: HostRuntime) -> Result<(), Fail> {
     assert!(rt; kept(&case, 3).is_none());
     Ok(())
 }
+
+// Checks which pages commit `k` turns.
+fn check_turned(
+    rt: &impl Abort,
+    alloc: Global,
+    case: &Case<'_>,
+    k: u32,
+    pages: &[u32],
+) -> Result<(), Fail> {
+    assert!(rt; 1 <= k && k <= case.wal().commits());
+    assert_eq!(rt; case.turned(alloc, k)?.as_slice(), pages, "commit {k}");
+    Ok(())
+}
+
+#[test]
+fn the_pages_that_a_commit_turns(rt: HostRuntime) -> Result<(), Fail> {
+    let alloc = rt.alloc();
+    let plain = database(alloc, &[Image::Head(2), Image::Filled(7)])?;
+    let frames = [(5, 0), (2, 0), (5, 5), (2, 2), (9, 0)];
+    let mut written = Vec::new(alloc);
+    for (page, size) in frames {
+        written.push((page, size, Image::Filled(8)))?;
+    }
+    let logged = log(alloc, &written)?;
+    let case = gathered(&rt, alloc, &plain, Some(&logged), None)?;
+    check_turned(&rt, alloc, &case, 1, &[2, 5])?;
+    check_turned(&rt, alloc, &case, 2, &[2])
+}

@@ -1,5 +1,5 @@
 use Rattle.std.proofs.Common.{◌≡◌, ◌++◌, map, take, drop}
-use Rattle.sx_wal.specs.Wal.{as_committed}
+use Rattle.sx_wal.specs.Walk.{as_committed}
 use Rattle.sx_wal.proofs.read.mark_committed.Given as goal
 
 abbrev pub invariant-loop-i : goal.invariant-loop-i

@@ -1,7 +1,7 @@
 use Rattle.std.proofs.Common.{ℕ, List, ◌++◌, ◌∷◌, [], ◌∙◌, sym, ap, arith, Vec, Global, length, map, take, drop, ◌≡◌, ◌<◌, ◌^◌}
 use Rattle.std.proofs.lemmas.List.FromFn.{length-map-range_with_len}
-use Rattle.sx_wal.specs.Wal.{slot_past, as_committed}
 use Rattle.sx_wal.specs.declared.slot.Slot.{Slot}
+use Rattle.sx_wal.specs.Walk.{slot_past, as_committed}
 use Rattle.sx_wal.proofs.RunLemmas.{some_where_fit}
 use Rattle.sx_wal.proofs.WalkLemmas.{walked_commit, walked_other, walked_same, walked_end, walked_index, written_back}
 use Rattle.sx_wal.proofs.read.read_slots.Goals as goal
