@@ -20,6 +20,7 @@ abbrev pub kind_in : Result NodePage NodeFault → Option Kind
 kind_in (Ok node) = Some node.kind
 kind_in (Err fault) = None
 
+-- the kind of the page with these bytes, if it is held and a b-tree page
 abbrev pub view_kind : ℕ → ℕ → Option (List ℕ) → Option Kind
 view_kind usable number None = None
 view_kind usable number (Some page) = kind_in (node_of page number usable)
@@ -33,6 +34,7 @@ abbrev pub differs : Bool → Bool → Bool
 differs true other = not other
 differs false other = other
 
+-- a page is one of the other kind than the root, where the root is a b-tree page
 abbrev pub is_other_kind : Option Kind → Kind → Bool
 is_other_kind None kind = false
 is_other_kind (Some root) kind = differs (is_table root) (is_table kind)
@@ -48,6 +50,7 @@ abbrev pub page_in : ℕ → Option Kind → Bool → ℕ → Option (List ℕ) 
 page_in usable root shared number None = Err Absent
 page_in usable root shared number (Some page) = if shared then Err DoubleClaim else sound_node root (node_of page number usable)
 
+-- the page of a number as a walk finds it: the first of its faults, or the b-tree page
 unfoldable pub opened : Tree → ℕ → Result NodePage TreeFault
 opened tree number = page_in tree.usable (root_kind tree) (nat_le 2 (references tree number)) number (tree.view number)
 

@@ -1,5 +1,5 @@
 -- The table that is filled while the pages of a tree are found: each held page that was named, in the order in which they
--- were named first, and whether it was named again.
+-- were named first, and whether it was named again. No clause of a public call names it.
 use Rattle.std.specs.Prelude.{◌≡◌, ℕ, ◌||◌, Bool, false, List, [], ◌∷◌, ◌++◌, Option, is_some, unwrap_or, map, nat_eq, if◌then◌else◌}
 use Rattle.std.specs.List.{list_any}
 use Rattle.std.specs.Map.{lookup}
@@ -13,7 +13,7 @@ unfoldable pub with_name : List (ℕ × Bool) → ℕ → List (ℕ × Bool)
 with_name table number =
     if is_some (lookup (nat_eq number) table) then named_again table number else table ++ (number, false) ∷ []
 
--- the same where only held pages are named
+-- the table after one more name, where a page that isn't held is left out
 unfoldable pub noted : (ℕ → Bool) → List (ℕ × Bool) → ℕ → List (ℕ × Bool)
 noted held table number = if held number then with_name table number else table
 

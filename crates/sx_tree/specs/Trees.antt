@@ -16,6 +16,7 @@ pub record Tree : Type 0 where
   pub usable : ℕ
   pub root : ℕ
 
+-- the tree of these
 abbrev pub tree_in : ℕ → (ℕ → Option (List ℕ)) → ℕ → ℕ → Tree
 tree_in size view usable root = record { size = size; view = view; usable = usable; root = root }
 
@@ -38,11 +39,12 @@ child_in (Right page) = page ∷ []
 abbrev pub children_of : NodePage → List ℕ
 children_of node = flat_map child_in (targets_of node)
 
--- other pages name none
+-- the children that a page which was read names: a page that is no b-tree page names none
 abbrev pub node_children : Result NodePage NodeFault → List ℕ
 node_children (Ok node) = children_of node
 node_children (Err fault) = []
 
+-- the children that the page with these bytes names, if it is held
 abbrev pub view_children : ℕ → ℕ → Option (List ℕ) → List ℕ
 view_children usable number None = []
 view_children usable number (Some page) = node_children (node_of page number usable)

@@ -1,4 +1,5 @@
 -- A walk through a tree: the pages on its way, from the root down to the page in hand, each with its parts that are to come.
+-- No clause of a public call names it.
 use Rattle.std.specs.Prelude.{◌≡◌, if◌then◌else◌, ℕ, zero, suc, ◌+◌, ◌-◌, ◌<◌, ◌≤◌, Bool, true, false, filter, nat_le, nat_eq, List, [], ◌∷◌, ◌++◌, length, map, Option, Some, None, Result, Ok, Err}
 use Rattle.std.specs.List.{flat_map, sum_by, list_any, IsDistinct}
 use Rattle.std.specs.Map.{lookup}
@@ -28,15 +29,17 @@ root_fault root (Some kind) = Fault kind root 0 ∷ []
 abbrev pub to_come : Tree → Option TreeFault → List Visit → List RowItem
 to_come tree fault way = root_fault tree.root fault ++ come tree (held_count tree) way
 
--- how many turns a page takes, with at most so many pages one below the other: one for each of its parts and one at its end
+-- how many turns of the walk a part takes: one, and those of the page below
 abbrev pub part_turns : (ℕ → ℕ) → Part → ℕ
 part_turns below (Item item) = 1
 part_turns below (Child number) = 1 + below number
 
+-- those of a page that was opened
 abbrev pub page_turns : (ℕ → ℕ) → Result NodePage TreeFault → ℕ
 page_turns below (Err kind) = 0
 page_turns below (Ok node) = 1 + sum_by (part_turns below) (parts_of node)
 
+-- those of the page of a number
 abbrev pub turns_of : Tree → ℕ → ℕ → ℕ
 turns_of tree zero number = 0
 turns_of tree (suc most) number = page_turns (turns_of tree most) (opened tree number)
@@ -65,6 +68,7 @@ abbrev pub IsWay : Tree → Option ℕ → List Visit → Type 0
 IsWay tree from [] = Unit {0}
 IsWay tree from (visit ∷ below) = IsVisit tree from visit × IsWay tree (Some visit.number) below
 
+-- the numbers of the pages on the way
 abbrev pub numbers_of : List Visit → List ℕ
 numbers_of way = map (λ visit. visit.number) way
 
@@ -96,7 +100,7 @@ pub record IsWalk (tree : Tree) (table : List (ℕ × Bool)) (kind : Option Kind
   pub is_way : IsWay tree None way
   pub apart : IsDistinct nat_eq (numbers_of way)
 
--- and the usable bytes are some of each page's
+-- what the rows in hand keep: the walk, and that the usable bytes are some of each page's
 pub record IsRows (page_size : ℕ) (tree : Tree) (table : List (ℕ × Bool)) (kind : Option Kind) (way : List Visit) (room : ℕ) : Type 0 where
   pub least : 480 ≤ tree.usable
   pub within : tree.usable ≤ page_size
