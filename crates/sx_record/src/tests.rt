@@ -36,6 +36,31 @@ fn values_but_texts_are_written_the_same_in_each_encoding(rt: HostRuntime) -> Re
 }
 
 #[test]
+fn values_and_texts_are_appended_to_a_line(rt: HostRuntime) -> Result<(), Fail> {
+    let mut line = String::from_str(rt.alloc(), "row 7 ")?;
+    // one byte more than the digits that go there at a time
+    put_value(&mut line, Value::Blob(&[0xab; 33]), Encoding::Utf8)?;
+    put_text(&mut line, b"\xd0\x90 b'\xff", Encoding::Utf8)?;
+    let want = concat!(
+        "row 7 x'",
+        "abababababababababababababababababababababababababababababababab",
+        "ab'",
+        "'А b\\'\\xff'"
+    );
+    assert_eq!(rt; line.as_str(), want);
+    Ok(())
+}
+
+#[test]
+fn the_types_of_a_front_have_their_lengths(rt: HostRuntime) {
+    let mut types = serial_types(b"\x01\x81\x00\x17\x82");
+    assert_eq!(rt; types.next(), Some((1, 1)));
+    assert_eq!(rt; types.next(), Some((128, 2)));
+    assert_eq!(rt; types.next(), Some((23, 1)));
+    assert_eq!(rt; types.next(), None);
+}
+
+#[test]
 fn every_single_byte_is_itself_or_escaped(rt: HostRuntime) -> Result<(), Fail> {
     let alloc = rt.alloc();
     for byte in 0..=255u8 {

@@ -1,0 +1,5 @@
+pub mod Adding
+pub mod Gaps
+pub mod Holding
+pub mod RunLemmas
+pub mod Tables
