@@ -1,10 +1,10 @@
 //! What refers to each page of a moment.
-ghost use Rattle.std.specs.Prelude.{◌≡◌, ◌-◌, ◌≤◌, ◌<◌, ◌^◌, [], ◌∷◌, length, IfOk};
+ghost use Rattle.std.specs.Prelude.{◌≡◌, ℕ, false, ◌-◌, ◌≤◌, ◌<◌, ◌^◌, [], ◌∷◌, length, IfOk};
 ghost use Rattle.sx_base.specs.Held.{held_pages};
 ghost use Rattle.sx_closure.specs.Graph.{IsGraph};
 ghost use Rattle.sx_closure.specs.Tallying.{IsTableOf};
 ghost use Rattle.sx_closure.specs.declared.pair.Source.TheVariants.{Root};
-ghost use Rattle.sx_refs.specs.Pages.{root_page, root_targets, roots_targets, maps_targets, all_roots, if_held, graph_of};
+ghost use Rattle.sx_refs.specs.Pages.{root_page, root_targets, roots_targets, is_map_in, maps_targets, all_roots, if_held, graph_of};
 
 use crate::targets::{give_linked, give_targets, may_name};
 use std::alloc::{AllocError, Global};
@@ -15,7 +15,10 @@ use sx_closure::{Links, Pair, Receiver, RefTable, Source, Tally, Target, close};
 /// Counts what refers to each page of a moment, from page 1, the freelist, the roots of the schema and the pointer-map
 /// pages on.
 ///
-/// All memory is taken before a page is read.
+/// The layout's page size isn't 0, and its usable bytes are from 480 to the size of the pages, which is at most 65536.
+/// All memory is taken before a page is read: at most 84 bytes for each held page. Each pair of a page and a role is asked
+/// once; the cost is that of reading the reached pages and a look-up for each target. It answers `AllocError` where
+/// memory runs out.
 pub fn references<'a, P: Pages<'a>>(
     alloc: Global,
     pages: &P,
@@ -146,7 +149,8 @@ fn root_page(root: i64) -> u32
     u32::try_from(root).unwrap_or(0)
 }
 
-/// Gives the held pointer-map pages.
+/// Gives the held pointer-map pages. They are found by steps from one place of such a page to the next: no other page is
+/// asked but the held one that follows a place.
 fn give_maps<'a, P: Pages<'a>, R: Receiver>(
     pages: &P,
     layout: &Layout,
@@ -158,12 +162,45 @@ fn give_maps<'a, P: Pages<'a>, R: Receiver>(
     if !layout.pointer_maps {
         return Ok(());
     }
+    let size = pages.size();
     let mut at = 0;
     while let Some(no) = pages.next_held(at) {
         give_map(layout, no, receiver)?;
-        at = no;
+        at = before_next_map(layout, no).min(size);
     }
     Ok(())
+}
+
+/// A page at or above this one up to which no page above it is a pointer-map page: the last before the next such page.
+fn before_next_map(layout: &Layout, no: u32) -> u32
+    requires { 0 < layout.now.page_size }
+    ensures above { no ≤ result }
+    ensures none { (page : ℕ) → no < page → page ≤ result → is_map_in layout.now page ≡ false }
+{
+    if no < 2 {
+        return 1;
+    }
+    let step = u64::from(layout.usable / 5 + 1);
+    let place = (u64::from(no - 2) / step + 1) * step + 2;
+    let last = last_below(place);
+    let lock = layout.lock_page();
+    // The page behind the lock-byte page may be a map in its place.
+    if lock < no || last <= lock {
+        return last;
+    }
+    lock
+}
+
+/// The last page number below this one.
+fn last_below(place: u64) -> u32
+    requires { 0 < place }
+    ensures below { result < place }
+    ensures last { (page : ℕ) → page < place → page < 2 ^ 32 → page ≤ result }
+{
+    if place > u64::from(u32::MAX) {
+        return u32::MAX;
+    }
+    place as u32 - 1
 }
 
 /// Gives a page where it is a pointer-map page.
