@@ -46,7 +46,7 @@ fn read_part(alloc: Global, key: &str, rest: &str, case: &mut Case) -> io::Resul
         "files" => read_files(alloc, rest, case)?,
         "words" => read_words(alloc, rest, case)?,
         "pieces" => return Ok(read_pieces(rest, case)),
-        "room" => case.each_room = true,
+        "room" if rest == "each" => case.each_room = true,
         "fault" => return read_fault(rest, case),
         "status" => case.status = rest.parse::<u8>().ok(),
         ">" => {
