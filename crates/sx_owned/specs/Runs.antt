@@ -22,11 +22,12 @@ abbrev pub Within : ℕ → List Run → Type 0
 Within size [] = Unit {0}
 Within size (run ∷ runs) = (run.end ≤ size) × Within size runs
 
--- each run ends before a place; each ends there or behind it
+-- each run ends before a place
 abbrev pub EndBefore : ℕ → List Run → Type 0
 EndBefore at [] = Unit {0}
 EndBefore at (run ∷ runs) = (run.end < at) × EndBefore at runs
 
+-- each run ends at a place or behind it
 abbrev pub Reach : ℕ → List Run → Type 0
 Reach at [] = Unit {0}
 Reach at (run ∷ runs) = (at ≤ run.end) × Reach at runs
@@ -54,10 +55,11 @@ pub record Extends (old new : List Run) (run : Run) : Type 0 where
   pub owned : (at : ℕ) → is_owned new at ≡ (is_owned old at || holds at run)
   pub within : (size : ℕ) → Within size old → run.end ≤ size → Within size new
 
--- what is between the runs, from a place on up to the end
+-- the span between two places, if there is one
 abbrev pub gap : ℕ → ℕ → List Span
 gap from to = if nat_lt from to then record { start = from; len = to - from } ∷ [] else []
 
+-- what is between the runs, from a place on up to the end
 unfoldable pub free_from : ℕ → ℕ → List Run → List Span
 free_from from end [] = gap from end
 free_from from end (run ∷ runs) = gap from run.start ++ free_from run.end end runs

@@ -3,6 +3,7 @@ use Rattle.std.specs.Prelude.{ℕ, ℤ, List}
 use Rattle.sx_record.specs.declared.value.Value.{Value}
 use Rattle.sx_record.specs.declared.value.Value.TheVariants.{Null, Int, Real, Text, Blob}
 
+-- what the value of a column holds
 pub data Content : Type 0 where
   null : Content
   integer : ℤ → Content

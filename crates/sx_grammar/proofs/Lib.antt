@@ -1,0 +1,12 @@
+pub mod Counting
+pub mod ShortLemmas
+pub mod FullLemmas
+pub mod ClipLemmas
+pub mod FrontLemmas
+pub mod EarlyLemmas
+pub mod FreedLemmas
+pub mod ChoiceLemmas
+pub mod ColumnLemmas
+pub mod ZeroLemmas
+pub mod ChosenLemmas
+pub mod StartLemmas

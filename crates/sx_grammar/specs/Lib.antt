@@ -1,0 +1,9 @@
+pub mod Shorts
+pub mod Sightings
+pub mod Records
+pub mod Full
+pub mod Clips
+pub mod Fronts
+pub mod Forms
+pub mod Choice
+pub mod Freed

@@ -1,0 +1,51 @@
+//! Numbers and serial types in their shortest spellings.
+ghost use Rattle.std.specs.Prelude.{◌≡◌, ◌^◌, ◌<◌, ◌≤◌, length, IfSome};
+ghost use Rattle.sx_grammar.specs.Shorts.{Finds, short_field, used_types, leaves, lowered, AreCounted};
+
+use sx_bytes::short_varint;
+use sx_record::{body_len, is_unused};
+
+/// A number in its shortest spelling and the bytes behind it.
+#[tactic(auto, unfolding(crate::specs::Shorts::short_field))]
+pub fn short_field(bytes: &[u8]) -> Option<(u64, &[u8])>
+    ensures finds { Finds (λ field. (field.0, field.1.now)) result (short_field bytes.now) }
+    ensures shorter { IfSome result (λ field. length field.1.now ≤ length bytes.now) }
+{
+    let (value, len) = short_varint(bytes)?;
+    Some((value, bytes.split_at(len).1))
+}
+
+/// How many types stand in these bytes, and what their bodies leave of the room.
+///
+/// None as soon as one isn't spelled as short as can be, is unused, doesn't end by the end of the bytes or has a body that
+/// is longer than what is left.
+#[tactic(auto, using(crate::proofs::Counting::none_left, crate::proofs::Counting::one_more, crate::proofs::Counting::unfit, crate::proofs::Counting::unread, crate::proofs::Counting::are_counted))]
+pub fn count_types(types: &[u8], room: u64) -> Option<(u32, u64)>
+    requires { length types.now < 2 ^ 32 }
+    ensures leaves { result ≡ leaves 0 room (used_types types.now) }
+    ensures less { IfSome result (λ read. read.1 ≤ room) }
+    ensures counted { IfSome result (λ read. AreCounted types.now read.0) }
+{
+    let mut rest = types;
+    let mut columns = 0;
+    let mut left = room;
+    while !rest.is_empty() {
+        let (serial_type, len) = short_varint(rest)?;
+        left = lowered(left, serial_type)?;
+        columns += 1;
+        rest = rest.split_at(len).1;
+    }
+    Some((columns, left))
+}
+
+/// What is left of the room behind the body of a type that a record may have.
+#[tactic(auto, unfolding(crate::specs::Shorts::lowered))]
+fn lowered(room: u64, serial_type: u64) -> Option<u64>
+    ensures value { result ≡ lowered room serial_type }
+    ensures less { IfSome result (λ left. left ≤ room) }
+{
+    if is_unused(serial_type) {
+        return None;
+    }
+    room.checked_sub(body_len(serial_type))
+}
