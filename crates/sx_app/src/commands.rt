@@ -1,7 +1,8 @@
 //! The table of commands: what each makes of the gathered evidence.
 ghost use Rattle.std.specs.Prelude.{◌≡◌, IfErr};
 ghost use Rattle.sx_page_text.specs.Rest.{page_rest};
-ghost use Rattle.sx_words.specs.Words.{Page, question_by};
+ghost use Rattle.sx_words.specs.Words.{question_by};
+ghost use Rattle.sx_words.specs.Words as words;
 ghost use Rattle.sx_app.specs.Commands.{part_named, reply_over};
 ghost use Rattle.sx_app.specs.Owed.{Gives, IsAnswered};
 ghost use Rattle.sx_app.specs.Stages.{MayMeet, Deciding};
@@ -44,8 +45,8 @@ pub fn answer_question<W: Sink>(
 
 // The lines of `page`.
 fn page_lines<'a>(case: &Case<'a>, no: u32, at: When) -> Result<PageLines<'a>, Refused>
-    ensures told { Gives page_rest result (reply_over (Page «no» at) case.now) }
-    ensures may { IfErr result (MayMeet (Deciding (Page «no» at))) }
+    ensures told { Gives page_rest result (reply_over (words.Page «no» at) case.now) }
+    ensures may { IfErr result (MayMeet (Deciding (words.Page «no» at))) }
 {
     let snapshot = snapshot_asked(case, at)?;
     Ok(PageLines::new(&snapshot, no))
