@@ -1,14 +1,25 @@
 -- A list of linked numbers grows by one, and one chain of it is followed.
-use Rattle.std.proofs.Common.{◌≡◌, ℕ, ◌+◌, ◌<◌, ◌≤◌, ◌^◌, ◌==◌, Bool, true, false, cond, nat_le, IfSome, min, List, [], ◌∷◌, ◌++◌, Option, Some, None, length, take, get_or, slice_index, slice_index_or, count_by, nat_eq, refl, sym, ap, ◌∙◌, arith, inl, inr, eqb-true, eq-or-lt_of_le, length-append, length-take-le, take-take}
+use Rattle.std.proofs.Common.{◌≡◌, ◌≢◌, ℕ, zero, suc, ◌-◌, replicate, subst, slice_set, ◌+◌, ◌<◌, ◌≤◌, ◌^◌, ◌==◌, Bool, true, false, cond, nat_le, IfSome, min, List, [], ◌∷◌, ◌++◌, Option, Some, None, length, take, get_or, slice_index, slice_index_or, count_by, nat_eq, refl, sym, ap, ◌∙◌, arith, inl, inr, eqb-true, eq-or-lt_of_le, length-append, length-take-le, take-take}
 use Rattle.std.proofs.Math.Seq.{get_or-append_seam}
-use Rattle.std.specs.Ordering.{nat_cmp, is_eq}
-use Rattle.std.proofs.lemmas.Bool.{leb-true}
+use Rattle.std.specs.List.{Contains}
+use Rattle.std.specs.List.{dedup}
+use Rattle.std.specs.List.Retain.{IsFiltered, DiffersFromLast}
+use Rattle.std.specs.List.Sorted.{IsPermutation, IsSorted, IsStrictlyIncreasing}
+use Rattle.std.specs.Ordering.{nat_cmp}
+use Rattle.std.proofs.lemmas.List.Filters.{dedup_is}
+use Rattle.std.proofs.lemmas.List.Kept.{Contains-dedup_nat}
+use Rattle.std.proofs.lemmas.List.Sorted.{Contains-permutation}
+use Rattle.std.proofs.lemmas.Map.Keys.{IsStrictlyIncreasing-dedup}
+use Rattle.std.proofs.lemmas.Bool.{leb-true, cases_lt}
 use Rattle.std.proofs.lemmas.Bool.Decides.{nat_tests}
-use Rattle.std.proofs.lemmas.List.{get_or_default, get_or-map, get_or_append_left, length-map, map-append, take_more}
+use Rattle.std.proofs.lemmas.List.{get_or_default, get_or-map, get_or_append_left, length-map, map-append, take_more, get_or-set_same, get_or-set_other, length-set, length-replicate, get_or-replicate}
+use Rattle.std.proofs.lemmas.List.Elements.{Contains-get_or}
+use Rattle.std.proofs.lemmas.Grind.{get_or_default_zero}
 use Rattle.std.proofs.lemmas.List.Sums.{count_by_more_yes, sum_by-take-le}
 use Rattle.sx_chain.specs.declared.node.Node.{Node}
 use Rattle.sx_base.specs.Places.{last_place}
 use Rattle.sx_chain.specs.Newest.{has_number}
+use Rattle.sx_chain.specs.Heads.{AreDistinct, AreHeads, place_below}
 use Rattle.sx_chain.specs.Links.{IsChained, IsFar, IsSkewed, followed, numbers_of, links_of, fars_of}
 use Rattle.sx_base.proofs.Places.{reach, reach_within, last_place-zero, last_place-more, last_place-same, last_place-cut, last_place_passes}
 
@@ -24,11 +35,11 @@ last_place-before numbers last number bound within =
     last_place-same (has_number numbers number) (has_number (numbers ++ last ∷ []) number) bound
     (λ place below. sym (has_number-before numbers last number place (omega arith)))
 
-linked_case : (numbers : List ℕ) (links : List (Option ℕ)) (head : ℕ → Option ℕ) (number : ℕ) (previous : Option ℕ) (place : ℕ)
-    → IsChained numbers links head → previous ≡ head number → place < length numbers + 1
+linked_case : (numbers : List ℕ) (links : List (Option ℕ)) (number : ℕ) (previous : Option ℕ) (place : ℕ)
+    → IsChained numbers links → previous ≡ last_place (has_number numbers number) (length numbers) → place < length numbers + 1
     → slice_index_or (links ++ previous ∷ []) place None
     ≡ last_place (has_number (numbers ++ number ∷ []) (slice_index (numbers ++ number ∷ []) place)) place
-linked_case numbers links head number previous place chained is within =
+linked_case numbers links number previous place chained is within =
     elim (eq-or-lt_of_le within) [
       | inl last ↦
           let top : place ≡ length numbers = omega arith in
@@ -36,7 +47,6 @@ linked_case numbers links head number previous place chained is within =
           ap (λ k. get_or (links ++ previous ∷ []) k None) at_links
           ∙ get_or-append_seam links previous [] None
           ∙ is
-          ∙ chained.heads number
           ∙ last_place-before numbers number number (length numbers) (omega arith)
           ∙ ap (λ found. last_place (has_number (numbers ++ number ∷ []) found) (length numbers)) (sym (get_or-append_seam numbers number [] 0))
           ∙ ap (λ k. last_place (has_number (numbers ++ number ∷ []) (slice_index (numbers ++ number ∷ []) k)) k) (sym top)
@@ -48,42 +58,38 @@ linked_case numbers links head number previous place chained is within =
           ∙ ap (λ found. last_place (has_number (numbers ++ number ∷ []) found) place) (sym (get_or_append_left numbers (number ∷ []) 0 place below))
     ]
 
-heads_more : (numbers : List ℕ) (links : List (Option ℕ)) (old : ℕ → Option ℕ) (number asked : ℕ)
-    → IsChained numbers links old
-    → cond (nat_eq number asked) (Some (length numbers)) (old asked)
+heads_more : (numbers : List ℕ) (number asked : ℕ)
+    → cond (nat_eq number asked) (Some (length numbers)) (last_place (has_number numbers asked) (length numbers))
     ≡ last_place (has_number (numbers ++ number ∷ []) asked) (length (numbers ++ number ∷ []))
-heads_more numbers links old number asked chained =
+heads_more numbers number asked =
     let all = numbers ++ number ∷ [] in
     let long : length all ≡ length numbers + 1 = omega (arith, length-append numbers (number ∷ [])) in
     ap (λ rest. cond (nat_eq number asked) (Some (length numbers)) rest)
-    (chained.heads asked ∙ last_place-before numbers number asked (length numbers) (omega arith))
+    (last_place-before numbers number asked (length numbers) (omega arith))
     ∙ ap (λ found. cond (nat_eq found asked) (Some (length numbers)) (last_place (has_number all asked) (length numbers)))
     (sym (get_or-append_seam numbers number [] 0))
     ∙ sym (last_place-more (has_number all asked) (length numbers))
     ∙ ap (last_place (has_number all asked)) (sym long)
 
--- one number more, linked to the head that it replaces
-pub chained_more : (numbers : List ℕ) (links : List (Option ℕ)) (old new : ℕ → Option ℕ) (number : ℕ) (previous : Option ℕ)
-    → IsChained numbers links old → length numbers + 1 < 2 ^ 32 → previous ≡ old number
-    → ((asked : ℕ) → new asked ≡ cond (nat_eq number asked) (Some (length numbers)) (old asked))
-    → IsChained (numbers ++ number ∷ []) (links ++ previous ∷ []) new
-chained_more numbers links old new number previous chained few is heads =
+-- one number more, linked to the newest of its number
+pub chained_more : (numbers : List ℕ) (links : List (Option ℕ)) (number : ℕ) (previous : Option ℕ)
+    → IsChained numbers links → length numbers + 1 < 2 ^ 32 → previous ≡ last_place (has_number numbers number) (length numbers)
+    → IsChained (numbers ++ number ∷ []) (links ++ previous ∷ [])
+chained_more numbers links number previous chained few is =
     let long = length-append numbers (number ∷ []) in
     let long_links = length-append links (previous ∷ []) in
     record {
       few = omega (arith, long);
       long = omega (arith, long, long_links, chained.long);
-      linked = λ place within. linked_case numbers links old number previous place chained is (omega (arith, long));
-      heads = λ asked. heads asked ∙ heads_more numbers links old number asked chained;
+      linked = λ place within. linked_case numbers links number previous place chained is (omega (arith, long));
     }
 
 -- nothing is linked in the empty list
-pub chained_none : (head : ℕ → Option ℕ) → ((asked : ℕ) → head asked ≡ None) → IsChained [] [] head
-chained_none head empty = record {
+pub chained_none : IsChained [] []
+chained_none = record {
   few = omega arith;
   long = refl;
   linked = λ place within. absurd (omega arith);
-  heads = λ asked. empty asked ∙ sym (last_place-zero (has_number [] asked));
 }
 
 -- what is known on the way along the chain of a number: `now` steps after `old`, with `found` in hand
@@ -288,35 +294,159 @@ far_twice nodes place d e skewed within =
     let further = far_at nodes (get_or nodes place d).far e skewed (omega (arith, near.0)) in
     (omega (arith, near.0, further.0), further.1 ∙ near.1)
 
--- the head of a number is an item of it
-pub head_there : (nodes : List Node) (head : ℕ → Option ℕ) (number : ℕ) (previous : Option ℕ) → IsChained (numbers_of nodes) (links_of nodes) head
-    → previous ≡ head number → IfSome previous (λ before. (before < length nodes) × (slice_index (numbers_of nodes) before ≡ number))
-head_there nodes head number None chained is = tt
-head_there nodes head number (Some before) chained is =
-    let here = last_place_passes (has_number (numbers_of nodes) number) (length (numbers_of nodes)) before (sym (is ∙ chained.heads number)) in
+-- the newest of a number is an item of it
+pub head_there : (nodes : List Node) (number : ℕ) (previous : Option ℕ)
+    → previous ≡ last_place (has_number (numbers_of nodes) number) (length (numbers_of nodes))
+    → IfSome previous (λ before. (before < length nodes) × (slice_index (numbers_of nodes) before ≡ number))
+head_there nodes number None is = tt
+head_there nodes number (Some before) is =
+    let here = last_place_passes (has_number (numbers_of nodes) number) (length (numbers_of nodes)) before (sym is) in
     (omega (arith, here.0, length-map nodes (λ n. n.number)), eqb-true _ _ here.1)
 
--- the two tests of equal keys
-pub same_key : (number asked : ℕ) → is_eq (nat_cmp number asked) ≡ nat_eq number asked
-same_key number asked = grind (arith, nat_tests)
+-- ---- heads
 
--- what the loop that links a list keeps: the first numbers are copied and chained
-pub record IsBuilt (all : List ℕ) (done : ℕ) (nodes : List Node) (head : ℕ → Option ℕ) : Type 0 where
+rise_by : (xs : List ℕ) (n i : ℕ) → IsStrictlyIncreasing xs → i + suc n < length xs → slice_index xs i < slice_index xs (i + suc n)
+rise_by xs zero i rising below = rising i (omega arith)
+rise_by xs (suc n) i rising below =
+    let lower = rise_by xs n i rising (omega arith) in
+    let next = rising (i + suc n) (omega arith) in
+    let at : i + suc n + 1 ≡ i + suc (suc n) = omega arith in
+    let last : slice_index xs (i + suc n + 1) ≡ slice_index xs (i + suc (suc n)) = ap (slice_index xs) at in
+    omega (arith, lower, next, last)
+
+rise_far : (xs : List ℕ) (i j : ℕ) → IsStrictlyIncreasing xs → i < j → j < length xs → slice_index xs i < slice_index xs j
+rise_far xs i j rising before below =
+    let at : i + suc (j - i - 1) ≡ j = omega arith in
+    let less = rise_by xs (j - i - 1) i rising (omega arith) in
+    let last : slice_index xs (i + suc (j - i - 1)) ≡ slice_index xs j = ap (slice_index xs) at in
+    omega (arith, less, last)
+
+-- numbers that rise don't fall
+pub rise_upto : (xs : List ℕ) → IsStrictlyIncreasing xs → (i j : ℕ) → i ≤ j → j < length xs → slice_index xs i ≤ slice_index xs j
+rise_upto xs rising i j upto below =
+    elim (eq-or-lt_of_le upto) [
+      | inl same ↦ let level : slice_index xs i ≡ slice_index xs j = ap (slice_index xs) same in omega (arith, level)
+      | inr before ↦ let less = rise_far xs i j rising before below in omega (arith, less)
+    ]
+
+ranks_apart : (xs : List ℕ) (i j : ℕ) → IsStrictlyIncreasing xs → i < length xs → j < length xs → i ≢ j → slice_index xs i ≢ slice_index xs j
+ranks_apart xs i j rising low high differ same =
+    elim (cases_lt i j) [
+      | inl before ↦ let less = rise_far xs i j rising before high in absurd (omega arith)
+      | inr behind ↦ let less = rise_far xs j i rising (omega arith) low in absurd (omega arith)
+    ]
+
+below_end : (n : ℕ) → place_below (n + 1) ≡ Some n
+below_end n =
+    let some : (n + 1 == 0) ≡ false = grind (arith, nat_tests) in
+    let at : n + 1 - 1 ≡ n = omega arith in
+    rw (some, at) refl
+
+newer_case : (numbers distinct ends : List ℕ) (number at rank : ℕ) (same : Bool) → nat_eq rank at ≡ same
+    → IsStrictlyIncreasing distinct → AreHeads numbers distinct ends → at < length distinct → slice_index distinct at ≡ number → rank < length distinct
+    → place_below (slice_index (slice_set ends at (length numbers + 1)) rank)
+    ≡ cond (nat_eq number (slice_index distinct rank)) (Some (length numbers)) (last_place (has_number numbers (slice_index distinct rank)) (length numbers))
+newer_case numbers distinct ends number at rank true is rising heads within here below =
+    let this : rank ≡ at = eqb-true rank at is in
+    let own : number ≡ slice_index distinct rank = sym here ∙ ap (slice_index distinct) (sym this) in
+    let yes : nat_eq number (slice_index distinct rank) ≡ true = grind (arith, nat_tests) in
+    let set : slice_index (slice_set ends at (length numbers + 1)) rank ≡ length numbers + 1
+    = ap (slice_index (slice_set ends at (length numbers + 1))) this ∙ get_or-set_same ends at (length numbers + 1) 0 (omega (arith, heads.long)) in
+    ap place_below set ∙ below_end (length numbers)
+    ∙ ap (λ b. cond b (Some (length numbers)) (last_place (has_number numbers (slice_index distinct rank)) (length numbers))) (sym yes)
+newer_case numbers distinct ends number at rank false is rising heads within here below =
+    let apart : rank ≢ at = λ same. grind (arith, nat_tests) in
+    let differ : slice_index distinct rank ≢ slice_index distinct at = ranks_apart distinct rank at rising below within apart in
+    let no : nat_eq number (slice_index distinct rank) ≡ false = grind (arith, nat_tests) in
+    let kept : slice_index (slice_set ends at (length numbers + 1)) rank ≡ slice_index ends rank
+    = get_or-set_other ends at rank (length numbers + 1) 0 apart in
+    ap place_below kept ∙ heads.newest rank below
+    ∙ ap (λ b. cond b (Some (length numbers)) (last_place (has_number numbers (slice_index distinct rank)) (length numbers))) (sym no)
+
+-- the end of a number is put behind the number that is added
+pub heads_newer : (numbers distinct ends : List ℕ) (number at : ℕ) → IsStrictlyIncreasing distinct → AreHeads numbers distinct ends
+    → at < length distinct → slice_index distinct at ≡ number
+    → AreHeads (numbers ++ number ∷ []) distinct (slice_set ends at (length numbers + 1))
+heads_newer numbers distinct ends number at rising heads within here = record {
+  long = length-set ends at (length numbers + 1) ∙ heads.long;
+  newest = λ rank below.
+      newer_case numbers distinct ends number at rank (nat_eq rank at) refl rising heads within here below
+      ∙ heads_more numbers number (slice_index distinct rank);
+}
+
+-- the newest of the number of a rank
+pub newest_at : (numbers distinct ends : List ℕ) (number rank : ℕ) (previous : Option ℕ) → AreHeads numbers distinct ends
+    → rank < length distinct → slice_index distinct rank ≡ number → previous ≡ place_below (slice_index ends rank)
+    → previous ≡ last_place (has_number numbers number) (length numbers)
+newest_at numbers distinct ends number rank previous heads there here is =
+    is ∙ heads.newest rank there ∙ ap (λ n. last_place (has_number numbers n) (length numbers)) here
+
+-- a number between two that are neighbours isn't there
+pub not_found : (xs : List ℕ) (x i : ℕ) → ((k : ℕ) → k < i → slice_index xs k < x) → ((k : ℕ) → i ≤ k → k < length xs → x < slice_index xs k)
+    → Contains xs x → ⊥
+not_found xs x i low high there =
+    let at : slice_index xs there.0 ≡ x = sym (get_or_default_zero xs there.0 x there.1) ∙ there.2 in
+    elim (cases_lt there.0 i) [
+      | inl before ↦ let less = low there.0 before in omega arith
+      | inr behind ↦ let more = high there.0 behind there.1 in omega arith
+    ]
+
+-- a list sorted, and each number kept once
+pub distinct_is : (numbers sorted kept : List ℕ) → IsPermutation numbers sorted → IsSorted nat_cmp sorted → IsFiltered (DiffersFromLast nat_eq) [] sorted kept
+    → AreDistinct numbers kept
+distinct_is numbers sorted kept moved order filtered =
+    let kept_is : kept ≡ dedup nat_eq sorted = dedup_is nat_eq sorted kept filtered in
+    record {
+      rising = rw kept_is (IsStrictlyIncreasing-dedup sorted order);
+      held = λ number there. rw kept_is (Contains-dedup_nat sorted number (Contains-permutation numbers sorted number moved there));
+    }
+
+-- no number has one at first
+pub heads_none : (distinct ends : List ℕ) → ends ≡ replicate (length distinct) 0 → AreHeads [] distinct ends
+heads_none distinct ends is = record {
+  long = ap length is ∙ length-replicate (length distinct) 0;
+  newest = λ rank below.
+      ap (λ l. place_below (slice_index l rank)) is
+      ∙ ap place_below (get_or-replicate (length distinct) rank 0 0 below)
+      ∙ sym (last_place-zero (has_number [] (slice_index distinct rank)));
+}
+
+-- a number that isn't among the distinct ones has no place
+none_upto : (numbers : List ℕ) (number n : ℕ) → n ≤ length numbers → (Contains numbers number → ⊥) → last_place (has_number numbers number) n ≡ None
+none_upto numbers number zero within never = last_place-zero (has_number numbers number)
+none_upto numbers number (suc n) within never =
+    let apart : slice_index numbers n ≢ number = λ same. never (subst (Contains numbers) same (Contains-get_or numbers n 0 (omega arith))) in
+    let no : has_number numbers number n ≡ false = grind (arith, nat_tests) in
+    let one : suc n ≡ n + 1 = omega arith in
+    ap (last_place (has_number numbers number)) one
+    ∙ last_place-more (has_number numbers number) n
+    ∙ ap (λ b. cond b (Some n) (last_place (has_number numbers number) n)) no
+    ∙ none_upto numbers number n (omega arith) never
+
+pub head_none : (numbers distinct : List ℕ) (number : ℕ) → AreDistinct numbers distinct → (Contains distinct number → ⊥)
+    → None ≡ last_place (has_number numbers number) (length numbers)
+head_none numbers distinct number are never =
+    sym (none_upto numbers number (length numbers) (omega arith) (λ there. never (are.held number there)))
+
+-- what the loop that links a list keeps: the first numbers are copied and chained, and have their heads
+pub record IsBuilt (all : List ℕ) (done : ℕ) (nodes : List Node) (distinct ends : List ℕ) : Type 0 where
   pub copied : numbers_of nodes ≡ take done all
-  pub chained : IsChained (numbers_of nodes) (links_of nodes) head
+  pub chained : IsChained (numbers_of nodes) (links_of nodes)
   pub skewed : IsSkewed (numbers_of nodes) (links_of nodes) (fars_of nodes)
+  pub heads : AreHeads (numbers_of nodes) distinct ends
 
-pub built_none : (all : List ℕ) (nodes : List Node) (head : ℕ → Option ℕ) → nodes ≡ []
-    → ((asked : ℕ) → head asked ≡ None) → IsBuilt all 0 nodes head
-built_none all nodes head none empty = rw none (record { copied = refl; chained = chained_none head empty; skewed = λ place within. absurd (omega arith) })
+pub built_none : (all : List ℕ) (nodes : List Node) (distinct ends : List ℕ) → nodes ≡ [] → ends ≡ replicate (length distinct) 0 → IsBuilt all 0 nodes distinct ends
+built_none all nodes distinct ends none zeros =
+    rw none (record { copied = refl; chained = chained_none; skewed = λ place within. absurd (omega arith); heads = heads_none distinct ends zeros })
 
-pub built_more : (all : List ℕ) (done : ℕ) (nodes now : List Node) (node : Node) (old new : ℕ → Option ℕ)
-    → length all < 2 ^ 32 → done < length all → IsBuilt all done nodes old
-    → now ≡ nodes ++ node ∷ [] → node.number ≡ get_or all done 0 → node.previous ≡ old (get_or all done 0)
+pub built_more : (all : List ℕ) (done : ℕ) (nodes now : List Node) (node : Node) (distinct ends after : List ℕ) (rank : ℕ)
+    → length all < 2 ^ 32 → done < length all → IsStrictlyIncreasing distinct → IsBuilt all done nodes distinct ends
+    → rank < length distinct → slice_index distinct rank ≡ get_or all done 0
+    → now ≡ nodes ++ node ∷ [] → node.number ≡ get_or all done 0 → node.previous ≡ place_below (slice_index ends rank)
     → IsFar (numbers_of nodes) (get_or all done 0) node.previous done node.far
-    → ((asked : ℕ) → new asked ≡ cond (nat_eq (get_or all done 0) asked) (Some done) (old asked))
-    → IsBuilt all (done + 1) now new
-built_more all done nodes now node old new few within built is number previous far heads =
+    → after ≡ slice_set ends rank (done + 1)
+    → IsBuilt all (done + 1) now distinct after
+built_more all done nodes now node distinct ends after rank few within rising built there here is number previous far put =
     let long : length (numbers_of nodes) ≡ done = ap length built.copied ∙ length-take-le done all (omega arith) in
     let numbers : numbers_of now ≡ numbers_of nodes ++ get_or all done 0 ∷ []
     = ap numbers_of is ∙ map-append (λ n. n.number) nodes (node ∷ []) ∙ ap (λ n. numbers_of nodes ++ n ∷ []) number in
@@ -326,20 +456,22 @@ built_more all done nodes now node old new few within built is number previous f
     = ap fars_of is ∙ map-append (λ n. n.far) nodes (node ∷ []) in
     let long_fars : length (fars_of nodes) ≡ length (numbers_of nodes) = length-map nodes (λ n. n.far) ∙ sym (length-map nodes (λ n. n.number)) in
     let far_now : IsFar (numbers_of nodes) (get_or all done 0) node.previous (length (numbers_of nodes)) node.far = rw long far in
+    let newest : node.previous ≡ last_place (has_number (numbers_of nodes) (get_or all done 0)) (length (numbers_of nodes))
+    = previous ∙ built.heads.newest rank there ∙ ap (λ n. last_place (has_number (numbers_of nodes) n) (length (numbers_of nodes))) here in
+    let newer = heads_newer (numbers_of nodes) distinct ends (get_or all done 0) rank rising built.heads there here in
     record {
       copied = numbers ∙ ap (λ front. front ++ get_or all done 0 ∷ []) built.copied ∙ sym (take_more all done 0 within);
-      chained = rw (numbers, links) (chained_more (numbers_of nodes) (links_of nodes) old new (get_or all done 0) node.previous
-          built.chained (omega arith) previous
-          (λ asked. heads asked ∙ ap (λ k. cond (nat_eq (get_or all done 0) asked) (Some k) (old asked)) (sym long)));
+      chained = rw (numbers, links) (chained_more (numbers_of nodes) (links_of nodes) (get_or all done 0) node.previous built.chained (omega arith) newest);
       skewed = rw (numbers, links, fars) (skewed_more (numbers_of nodes) (links_of nodes) (fars_of nodes) (get_or all done 0) node.far node.previous
           built.chained.long long_fars built.skewed far_now);
+      heads = rw (numbers, put) (subst (λ n. AreHeads (numbers_of nodes ++ get_or all done 0 ∷ []) distinct (slice_set ends rank (n + 1))) long newer);
     }
 
 -- the link that a node holds
-pub link_read : (nodes : List Node) (place : ℕ) (node : Node) (head : ℕ → Option ℕ)
-    → IsChained (numbers_of nodes) (links_of nodes) head → place < length (numbers_of nodes) → node ≡ get_or nodes place node
+pub link_read : (nodes : List Node) (place : ℕ) (node : Node)
+    → IsChained (numbers_of nodes) (links_of nodes) → place < length (numbers_of nodes) → node ≡ get_or nodes place node
     → node.previous ≡ last_place (has_number (numbers_of nodes) (slice_index (numbers_of nodes) place)) place
-link_read nodes place node head chained within is =
+link_read nodes place node chained within is =
     ap (λ n. n.previous) is
     ∙ sym (get_or-map (λ n. n.previous) nodes place node None (omega (arith, length-map nodes (λ n. n.number))))
     ∙ chained.linked place within

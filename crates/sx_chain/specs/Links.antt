@@ -32,10 +32,9 @@ IsSkewed numbers links fars =
     (place : ℕ) → place < length numbers
     → IsFar numbers (slice_index numbers place) (slice_index_or links place None) place (slice_index fars place)
 
--- each link goes to the greatest lower place with the same number, and each head is the greatest place of its number
-pub record IsChained (numbers : List ℕ) (links : List (Option ℕ)) (head : ℕ → Option ℕ) : Type 0 where
+-- each link goes to the greatest lower place with the same number
+pub record IsChained (numbers : List ℕ) (links : List (Option ℕ)) : Type 0 where
   pub few : length numbers < 2 ^ 32
   pub long : length links ≡ length numbers
   pub linked : (place : ℕ) → place < length numbers
       → slice_index_or links place None ≡ last_place (has_number numbers (slice_index numbers place)) place
-  pub heads : (number : ℕ) → head number ≡ last_place (has_number numbers number) (length numbers)

@@ -4,9 +4,9 @@ ghost use Rattle.sx_base.specs.Places.{last_place};
 ghost use Rattle.sx_chain.specs.Newest.{has_number};
 ghost use Rattle.sx_chain.specs.Links.{numbers_of, links_of, fars_of, IsFar, IsSkewed};
 
+use crate::heads::{distinct, head_at, known_rank, put_end, rank_of};
 use crate::node::Node;
 use std::alloc::{AllocError, Global};
-use std::collections::BTreeMap;
 use std::marker::Model;
 use std::sync::ledger::Ledger;
 use sx_base::Steps;
@@ -14,43 +14,52 @@ use sx_base::Steps;
 /// A list of numbers that can be asked for the newest item of a number below any bound.
 ///
 /// Each item is a node that holds the place of the item before it with the same number, or none. The greatest place of
-/// each number stands in a map. Contracts see the list.
+/// each number stands at its rank among the distinct numbers. Contracts see the list.
 #[derive(Drop)]
 pub struct Chains {
     nodes: Vec<Node>,
-    heads: BTreeMap<u32, u32>,
+    distinct: Vec<u32>,
+    ends: Vec<u32>,
 }
 
 impl Model for Chains {
     ghost use Rattle.std.specs.Prelude.{ℕ, List};
-    ghost use Rattle.std.specs.Ordering.{nat_cmp};
-    ghost use Rattle.std.specs.BTreeMap.{get};
     ghost use Rattle.sx_chain.specs.Links.{numbers_of, links_of, fars_of, IsChained, IsSkewed};
+    ghost use Rattle.sx_chain.specs.Heads.{AreDistinct, AreHeads};
 
     ghost Value = { List ℕ };
 
     ghost view = { λ chains. numbers_of chains.nodes.items };
 
-    ghost invariant = { λ chains. IsChained (numbers_of chains.nodes.items) (links_of chains.nodes.items) (get nat_cmp chains.heads)
+    ghost invariant = { λ chains. IsChained (numbers_of chains.nodes.items) (links_of chains.nodes.items)
+        × AreDistinct (numbers_of chains.nodes.items) chains.distinct.items
+        × AreHeads (numbers_of chains.nodes.items) chains.distinct.items chains.ends.items
         × IsSkewed (numbers_of chains.nodes.items) (links_of chains.nodes.items) (fars_of chains.nodes.items) };
 }
 
 /// Links a list of fewer than 4,294,967,296 numbers.
 ///
-/// It takes time and memory in proportion to the list, with one look-up for each number. It answers `AllocError` where
+/// It takes memory in proportion to the list, and the time of a sort, with one look-up for each number. It answers `AllocError` where
 /// memory runs out, and nothing else.
 pub fn build(alloc: Global, numbers: &[u32]) -> Result<Chains, AllocError>
     requires { length numbers.now < 2 ^ 32 }
     ensures { IfOk result (λ chains. chains ≡ numbers.now) }
 {
+    let distinct = distinct(alloc, numbers)?;
+    let mut ends = vec![in alloc; 0u32; distinct.len()]?;
     let mut nodes = Vec::with_capacity(alloc, numbers.len())?;
-    let mut heads = BTreeMap::new(alloc);
     for (i, number) in numbers.iter().enumerate() {
-        let previous = heads.insert(*number, i as u32)?;
+        let rank = known_rank(&distinct, *number);
+        let previous = head_at(&ends, rank);
         let node = linked(&nodes, *number, previous, i as u32);
         nodes.push(node)?;
+        put_end(&mut ends, rank, i as u32 + 1);
     }
-    Ok(Chains { nodes, heads })
+    Ok(Chains {
+        nodes,
+        distinct,
+        ends,
+    })
 }
 
 /// The item behind these, linked to the one before it with its number.
@@ -90,7 +99,7 @@ impl Chains {
         ensures links { steps.new ≤ steps.old + count_by (λ number. number == page) self.now }
         ensures later { steps.old ≤ steps.new }
     {
-        let mut found = self.heads.get(&page).copied();
+        let mut found = self.head(page);
         while let Some(place) = found {
             if place < before {
                 return found;
@@ -98,5 +107,15 @@ impl Chains {
             found = self.nodes[place as usize].follow(before, steps);
         }
         None
+    }
+
+    // The greatest place of a number.
+    fn head(&self, number: u32) -> Option<u32>
+        ensures { result ≡ last_place (has_number self.now number) (length self.now) }
+    {
+        match rank_of(&self.distinct, number) {
+            Some(rank) => head_at(&self.ends, rank),
+            None => None,
+        }
     }
 }

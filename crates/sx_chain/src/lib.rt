@@ -7,6 +7,7 @@
 #![tactic(auto)]
 
 mod chains;
+mod heads;
 mod node;
 
 pub use chains::{Chains, build};

@@ -1,6 +1,4 @@
-use Rattle.std.proofs.Common.{◌≡◌, ◌<◌, length, slice_index, ◌∙◌, arith}
-use Rattle.std.specs.Ordering.{nat_cmp}
-use Rattle.std.specs.BTreeMap.{get}
+use Rattle.std.proofs.Common.{◌≡◌, ◌<◌, length, slice_index, arith, rules}
 use Rattle.sx_base.specs.Places.{last_place}
 use Rattle.sx_chain.specs.Newest.{has_number}
 use Rattle.sx_chain.specs.Links.{numbers_of, IsFar}
@@ -12,8 +10,8 @@ use Rattle.sx_chain.proofs.chains.Chains.newest.Goals as goal
 pub loop-found-init : goal.loop-found-init
 loop-found-init g c =
     let numbers = numbers_of c.self.inside.nodes.items in
-    let head : c.copied-found.result ≡ last_place (has_number numbers c.args.page) (length numbers)
-    = c.copied-found.ensures ∙ c.get.ensures.value ∙ c.self.invariant.0.heads c.args.page in
+    let head : c.head-found.result ≡ last_place (has_number numbers c.args.page) (length numbers)
+    = search rules in
     rw head (along_head numbers c.args.page c.args.before c.args.steps.now)
 
 -- the item before, and the far end, of the place in hand
@@ -24,7 +22,7 @@ link g c =
     let numbers = numbers_of c.self.inside.nodes.items in
     let along = rw c.in-Some.is at c.loop-found.invariant in
     let within : c.in-Some.place < length numbers = omega (arith, along.within) in
-    link_read c.self.inside.nodes.items c.in-Some.place c.index.result.now (get nat_cmp c.self.inside.heads) c.self.invariant.0 within c.index.ensures
+    link_read c.self.inside.nodes.items c.in-Some.place c.index.result.now c.self.invariant.0 within c.index.ensures
 
 far : (g : Given.Over) (c : goal.After-follow-found g)
     → IsFar (numbers_of c.self.inside.nodes.items) (slice_index (numbers_of c.self.inside.nodes.items) c.in-Some.place) c.index.result.now.previous c.in-Some.place c.index.result.now.far
@@ -32,7 +30,7 @@ far g c =
     let numbers = numbers_of c.self.inside.nodes.items in
     let along = rw c.in-Some.is at c.loop-found.invariant in
     let within : c.in-Some.place < length numbers = omega (arith, along.within) in
-    far_read c.self.inside.nodes.items c.in-Some.place c.index.result.now c.self.invariant.1 within c.index.ensures
+    far_read c.self.inside.nodes.items c.in-Some.place c.index.result.now c.self.invariant.3 within c.index.ensures
 
 pub loop-found-smaller : goal.loop-found-smaller
 loop-found-smaller g c =
