@@ -82,9 +82,9 @@ impl<'a> Case<'a> {
         drop(slots);
         let records = first_records(alloc, &sources)?;
         let past_records = past_images(alloc, &records, &sources)?;
+        let frames = chain_slots(alloc, &sources)?;
         let past_counts = counts_at_commits(alloc, &sources, &past)?;
         let mark_counts = counts_at_commits(alloc, &sources, &marks)?;
-        let frames = chain_slots(alloc, &sources)?;
         Ok(Case {
             sources,
             frames,
