@@ -122,6 +122,7 @@ stays_within (Err refused) old new run size more same within ends = subst (Withi
 pub table_kept : (size : ℕ) (owned blocks : List (List Run)) (image : ℕ) (old new : List Run) → image < length owned → old ≡ get_or owned image old
     → (Within size old → Within size new) → IsTable owned blocks size → IsTable (set owned image new) blocks size
 table_kept size owned blocks image old new there_is is kept table = record {
+  few = (let count = length-set owned image new in let few = table.few in omega (arith, count, few));
   same = table.same ∙ sym (length-set owned image new);
   within =
       let before : Within size (get_or owned image old) = All-get_or (Within size) owned image old there_is table.within in

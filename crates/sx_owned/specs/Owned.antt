@@ -1,5 +1,5 @@
 -- What is known of the bytes of images: which are owned, and at which a freeblock begins.
-use Rattle.std.specs.Prelude.{◌≡◌, ℕ, Bool, false, ◌&&◌, ◌||◌, ◌==◌, List, [], length, All, slice_index_or}
+use Rattle.std.specs.Prelude.{◌≡◌, ℕ, ◌<◌, ◌^◌, Bool, false, ◌&&◌, ◌||◌, ◌==◌, List, [], length, All, slice_index_or}
 use Rattle.sx_base.specs.declared.evidence.Span.{Span}
 use Rattle.sx_owned.specs.declared.run.Run.{Run}
 use Rattle.sx_owned.specs.Runs.{Within, is_owned}
@@ -48,7 +48,8 @@ pub record Begins (old new : Owned) (image offset : ℕ) : Type 0 where
   pub owned : (other at : ℕ) → owned_at new other at ≡ owned_at old other at
   pub block : (other at : ℕ) → block_at new other at ≡ (block_at old other at || (other == image && at == offset))
 
--- as many sets of freeblocks as of owned bytes, and these lie in a page
+-- as many sets of freeblocks as of owned bytes, so many that a number of 32 bits tells it, and the owned bytes lie in a page
 pub record IsTable (owned blocks : List (List Run)) (page_size : ℕ) : Type 0 where
+  pub few : length owned < 2 ^ 32
   pub same : length blocks ≡ length owned
   pub within : All (Within page_size) owned

@@ -47,6 +47,20 @@ impl OwnedRuns {
         })
     }
 
+    /// How many images there are.
+    pub fn images(&self) -> u32
+        ensures { result ≡ images_of self.now }
+    {
+        self.owned.len() as u32
+    }
+
+    /// The size of an image in bytes.
+    pub fn page_size(&self) -> u32
+        ensures { result ≡ self.now.page_size }
+    {
+        self.page_size
+    }
+
     /// The bytes of `span` of an image are owned from now on. A refusal changes nothing.
     ///
     /// The cost is constant where no owned run of the image begins behind the span, and else linear in the image's runs.

@@ -4,11 +4,12 @@ use std::process::Abort;
 use std::test::Fail;
 use sx_base::Span;
 
-/// A table of two images of 512 bytes, with these spans of the second one owned, in this order.
+/// A table of two images of 512 bytes, with these spans of the second one owned, in this order; none where one ends outside.
 fn with_spans(alloc: Global, spans: &[(u32, u32)]) -> Result<Option<OwnedRuns>, AllocError> {
     let mut owned = OwnedRuns::fresh(alloc, 2, 512)?;
     for (start, len) in spans {
-        if *start > 512 || *len > 512 - *start {
+        let size = owned.page_size();
+        if owned.images() < 2 || *start > size || *len > size - *start {
             return Ok(None);
         }
         owned.add(
@@ -24,6 +25,7 @@ fn with_spans(alloc: Global, spans: &[(u32, u32)]) -> Result<Option<OwnedRuns>, 
 
 /// The unowned spans of the second image are these, and those of the first its whole page.
 fn assert_unowned(rt: &impl Abort, owned: &OwnedRuns, want: &[(u32, u32)]) {
+    assert_eq!(rt; owned.images(), 2);
     let mut spans = owned.unowned(1);
     for (start, len) in want {
         let span = Span {
@@ -59,8 +61,12 @@ fn unowned_spans_are_between_the_owned_ones(rt: HostRuntime) -> Result<(), Fail>
 fn blocks_begin_where_they_were_named(rt: HostRuntime) -> Result<(), Fail> {
     let mut owned = OwnedRuns::fresh(rt.alloc(), 2, 512)?;
     for at in [100, 8, 104, 9] {
+        if owned.images() < 2 || at >= owned.page_size() {
+            return Err(Fail::from("the table has two images of 512 bytes"));
+        }
         owned.block(1, at)?;
     }
+    assert_eq!(rt; owned.images(), 2);
     for at in 0..512 {
         let named = at == 8 || at == 9 || at == 100 || at == 104;
         assert_eq!(rt; owned.is_block(1, at), named, "at {at}");
