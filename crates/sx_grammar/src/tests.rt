@@ -1,6 +1,4 @@
 //! The forms on bytes whose readings are known from outside.
-ghost use Rattle.std.specs.Prelude.{ℕ, ◌<◌, ◌≤◌, length};
-
 use crate::{Ctx, Form, Reading, ShapeKey, Shown, accept, next_start};
 use std::process::Abort;
 use sx_record::Value;
@@ -17,10 +15,10 @@ const SHAPES: [ShapeKey; 2] = [
 ];
 
 /// The candidate at the front of these bytes, at offset 400 of a page of 512 usable bytes.
-fn found(bytes: &[u8], block: bool) -> Option<Reading<'_>>
-    requires some { 0 < length bytes.now }
-    requires small { length bytes.now ≤ 65536 }
-{
+fn found(bytes: &[u8], block: bool) -> Option<Reading<'_>> {
+    if bytes.is_empty() || bytes.len() > 65536 {
+        return None;
+    }
     let ctx = Ctx {
         usable: 512,
         shapes: &SHAPES,
