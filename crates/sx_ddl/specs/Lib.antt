@@ -1,0 +1,9 @@
+pub mod Given
+pub mod Items
+pub mod Keywords
+pub mod Kinds
+pub mod Options
+pub mod Pieces
+pub mod Sets
+pub mod Shapes
+pub mod Tokens
