@@ -139,21 +139,6 @@ pub record IsJoining (old items : List Segment) (first index : ℕ) : Type 0 whe
   pub before_end : index ≢ 1
   pub low : start_of items first ≤ start_of items index
 
-pub joining_start : (items : List Segment) (first : ℕ) → IsList items → IsLive items first → first ≢ 1 → IsJoining items items first first
-joining_start items first list live more = record {
-  joined = record {
-    list = list;
-    live = live;
-    starts = λ index. refl;
-    only = λ index on. on;
-    claimed = λ byte. refl;
-    apart = λ index on more low high. absurd (omega arith);
-  };
-  live = live;
-  before_end = more;
-  low = omega arith;
-}
-
 pub joining_take : (old items new : List Segment) (first index : ℕ) → IsJoining old items first index → IsTaken items new index → IsJoining old new first index
 joining_take old items new first index joining taken =
     let joined = joining.joined in

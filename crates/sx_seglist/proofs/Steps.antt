@@ -271,14 +271,6 @@ raise_one old new index label list live more set =
     (λ rest follow. changed_by old new index rest list agrees place follow)
     (λ follow. way_of_is new (place.ahead place.tail) (place.leads new place.tail agrees follow) ∙ place.same)
 
-pub raised_none : (items : List Segment) (start : ℕ) (label : Label) → IsList items → IsRaised items items start start label
-raised_none items start label list = record {
-  list = list;
-  way = refl;
-  starts = λ index. refl;
-  claimed = λ byte within. let is : (nat_le start byte && nat_lt byte start) ≡ false = grind (arith, nat_tests) in rw is refl;
-}
-
 raised_byte : (start middle end byte : ℕ) (label : Label) (old between new : Claimed) → start ≤ middle → middle ≤ end
     → between ≡ (if nat_le start byte && nat_lt byte middle then once_more label old else old)
     → new ≡ (if nat_le middle byte && nat_lt byte end then once_more label between else between)
