@@ -140,3 +140,8 @@ runs_along items index (next ∷ others) =
 -- and of those from an index on
 unfoldable pub runs_from : List Segment → ℕ → List (Span × Claimed)
 runs_from items index = runs_along items index (way (len_of items) items index)
+
+-- the runs from an index on are a run and those from a further index on
+pub record IsRun (items : List Segment) (index : ℕ) (run : Span × Claimed) (further : ℕ) : Type 0 where
+  pub linked : IsLinked items further
+  pub runs : runs_from items index ≡ run ∷ runs_from items further

@@ -1,6 +1,6 @@
 //! The runs of bytes of a page of which the same is claimed.
-ghost use Rattle.std.specs.Prelude.{◌≡◌, [], ◌∷◌, MatchOption, IfSome};
-ghost use Rattle.sx_seglist.specs.Links.{IsList, IsLinked, runs_from};
+ghost use Rattle.std.specs.Prelude.{◌≡◌, [], MatchOption};
+ghost use Rattle.sx_seglist.specs.Links.{IsList, IsLinked, IsRun, runs_from};
 
 use crate::claimed::Claimed;
 use crate::segment::{END, Segment};
@@ -57,8 +57,7 @@ impl<'l> Iterator for Segments<'l> {
 #[tactic(auto, using(crate::proofs::Walking::index_length, crate::proofs::Walking::next_index_length))]
 fn run_at(items: &[Segment], index: usize) -> Option<((Span, Claimed), usize)>
     requires { IsLinked items.now index }
-    ensures run { MatchOption result (runs_from items.now index ≡ []) (λ found. runs_from items.now index ≡ found.0 ∷ runs_from items.now found.1) }
-    ensures linked { IfSome result (λ found. IsLinked items.now found.1) }
+    ensures { MatchOption result (runs_from items.now index ≡ []) (λ found. IsRun items.now index found.0 found.1) }
 {
     if index == END {
         return None;
