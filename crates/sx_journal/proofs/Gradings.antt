@@ -7,7 +7,7 @@ use Rattle.sx_base.specs.declared.moment.Class.{Class}
 use Rattle.sx_base.specs.declared.moment.Class.TheVariants.{Unchecked}
 use Rattle.sx_journal.specs.declared.entry.Entry.{Entry}
 use Rattle.sx_journal.specs.Segments.{record_len, whole_records}
-use Rattle.sx_journal.specs.Entries.{Record, records_from, entries_of, entry_at}
+use Rattle.sx_journal.specs.Entries.{Record, records_from, entries_of, record_from}
 use Rattle.sx_journal.specs.Grading.{with_record, with_records}
 
 -- the record of each number below the count of whole ones is held
@@ -46,9 +46,9 @@ length-with_record bytes page_size before item = length-append before _
 pub entries_more : (bytes : List ℕ) (page_size : ℕ) (class : Class) (start nonce i : ℕ)
     → entries_of bytes page_size class (records_from page_size start nonce (i + 1))
     ≡ entries_of bytes page_size class (records_from page_size start nonce i)
-    ++ entry_at bytes page_size class (start + i * record_len page_size) ∷ []
+    ++ record_from bytes page_size class (start + i * record_len page_size) ∷ []
 entries_more bytes page_size class start nonce i =
-    let entry : Record → Entry = λ item. entry_at bytes page_size class item.place in
+    let entry : Record → Entry = λ item. record_from bytes page_size class item.place in
     ap (map entry) (records_more page_size start nonce i) ∙ map-append entry (records_from page_size start nonce i) _
 
 -- so many records of a segment were read behind `before`
@@ -85,10 +85,10 @@ unchecked_none bytes page_size start now none = record { entries = none; many = 
 
 pub unchecked_more : (bytes : List ℕ) (page_size start : ℕ) (now next : List Entry) (last : Entry) (i len : ℕ)
     → AreUnchecked bytes page_size start now i → len ≡ record_len page_size
-    → last ≡ entry_at bytes page_size Unchecked (start + i * len) → next ≡ now ++ last ∷ []
+    → last ≡ record_from bytes page_size Unchecked (start + i * len) → next ≡ now ++ last ∷ []
     → AreUnchecked bytes page_size start next (i + 1)
 unchecked_more bytes page_size start now next last i len read long entry is =
-    let same : last ≡ entry_at bytes page_size Unchecked (start + i * record_len page_size) = rw (← long) entry in
+    let same : last ≡ record_from bytes page_size Unchecked (start + i * record_len page_size) = rw (← long) entry in
     record {
       entries = is
           ∙ ap (λ front. front ++ last ∷ []) read.entries

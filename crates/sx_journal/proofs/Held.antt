@@ -9,7 +9,7 @@ use Rattle.sx_base.specs.declared.moment.Class.TheVariants.{Good, Bad, After, Un
 use Rattle.sx_journal.specs.declared.entry.Entry.{Entry}
 use Rattle.sx_journal.specs.Header.{sector_at, is_live, is_zeroed}
 use Rattle.sx_journal.specs.Segments.{record_len, whole_records, records_behind, following, segment_at, segments_from, segments_of}
-use Rattle.sx_journal.specs.Entries.{Record, fits, records_from, records_in, records_of, entry_at, entries_of, graded, unchecked}
+use Rattle.sx_journal.specs.Entries.{Record, record_fits, records_from, records_in, records_of, record_from, entries_of, graded, unchecked}
 use Rattle.sx_journal.specs.Journal.{live_journal, journal_of}
 use Rattle.sx_journal.proofs.Gradings.{record_held}
 use Rattle.sx_journal.proofs.Grades.{grades, graded_is}
@@ -19,7 +19,7 @@ use Rattle.sx_journal.proofs.Walks.{behind_within}
 abbrev pub IsRecordHeld : List ℕ → ℕ → Record → Type 0
 IsRecordHeld bytes page_size item = item.place + record_len page_size ≤ length bytes
 
--- the page of the entry and the checksum behind it lie in the file
+-- the page of the record and the checksum behind it lie in the file
 abbrev pub IsEntryHeld : List ℕ → ℕ → Entry → Type 0
 IsEntryHeld bytes page_size entry = entry.offset + page_size + 4 ≤ length bytes
 
@@ -48,19 +48,19 @@ segments_held bytes page_size sector (suc most) first (Some header) =
     (records_held bytes page_size (header + sector) _ (records_behind bytes page_size sector header) (behind_within bytes page_size sector header))
     (segments_held bytes page_size sector most (first + records_behind bytes page_size sector header) (following bytes page_size sector header))
 
--- entries are where their records are
+-- the records stand where they were read
 entries_held : (bytes : List ℕ) (page_size : ℕ) (class : Class) (records : List Record)
     → All (IsRecordHeld bytes page_size) records → All (IsEntryHeld bytes page_size) (entries_of bytes page_size class records)
-unfolding entry_at
+unfolding record_from
 entries_held bytes page_size class records held =
-    All-map (IsEntryHeld bytes page_size) (λ item. entry_at bytes page_size class item.place) records
+    All-map (IsEntryHeld bytes page_size) (λ item. record_from bytes page_size class item.place) records
     (λ k d within. omega (arith, held k d within))
 
 graded_held : (bytes : List ℕ) (page_size : ℕ) (records : List Record)
     → All (IsRecordHeld bytes page_size) records → All (IsEntryHeld bytes page_size) (graded bytes page_size records)
 unfolding graded
 graded_held bytes page_size records held =
-    let good = prefix_len (fits bytes page_size) records in
+    let good = prefix_len (record_fits bytes page_size) records in
     let P = IsRecordHeld bytes page_size in
     let E = IsEntryHeld bytes page_size in
     All-append E _ _
@@ -93,14 +93,14 @@ journal_held bytes page_size = held_case bytes page_size _ _ _ refl refl refl
 
 offset-entries_of : (bytes : List ℕ) (page_size : ℕ) (class : Class) (records : List Record)
     → map (λ entry. entry.offset) (entries_of bytes page_size class records) ≡ map (λ item. item.place + 4) records
-unfolding entry_at
+unfolding record_from
 offset-entries_of bytes page_size class [] = refl
 offset-entries_of bytes page_size class (item ∷ rest) = ap (λ places. (item.place + 4) ∷ places) (offset-entries_of bytes page_size class rest)
 
-offset_case : (bytes : List ℕ) (page_size : ℕ) (item : Record) (rest : List Record) (b : Bool) → fits bytes page_size item ≡ b
+offset_case : (bytes : List ℕ) (page_size : ℕ) (item : Record) (rest : List Record) (b : Bool) → record_fits bytes page_size item ≡ b
     → map (λ entry. entry.offset) (grades bytes page_size rest) ≡ map (λ r. r.place + 4) rest
     → map (λ entry. entry.offset) (grades bytes page_size (item ∷ rest)) ≡ (item.place + 4) ∷ map (λ r. r.place + 4) rest
-unfolding entry_at
+unfolding record_from
 offset_case bytes page_size item rest true is same = rw is (ap (λ places. (item.place + 4) ∷ places) same)
 offset_case bytes page_size item rest false is same =
     rw is (ap (λ places. (item.place + 4) ∷ places) (offset-entries_of bytes page_size After rest))

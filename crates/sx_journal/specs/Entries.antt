@@ -31,14 +31,14 @@ abbrev pub sum_at : List ℕ → ℕ → ℕ → ℕ
 sum_at bytes page_size place = word_at bytes (place + 4 + page_size)
 
 -- the record fits: its page number isn't 0 and its checksum is right
-unfoldable pub fits : List ℕ → ℕ → Record → Bool
-fits bytes page_size item =
+unfoldable pub record_fits : List ℕ → ℕ → Record → Bool
+record_fits bytes page_size item =
     not (word_at bytes item.place == 0)
     && (sum_at bytes page_size item.place == checksum item.nonce (page_at bytes page_size item.place))
 
 -- the record at a place, of that class
-unfoldable pub entry_at : List ℕ → ℕ → Class → ℕ → Entry
-entry_at bytes page_size class place = record {
+unfoldable pub record_from : List ℕ → ℕ → Class → ℕ → Entry
+record_from bytes page_size class place = record {
   page = word_at bytes place;
   offset = place + 4;
   sum = sum_at bytes page_size place;
@@ -60,13 +60,13 @@ records_of page_size sector segments = flat_map (records_in page_size sector) se
 
 -- records of one class
 abbrev pub entries_of : List ℕ → ℕ → Class → List Record → List Entry
-entries_of bytes page_size class records = map (λ item. entry_at bytes page_size class item.place) records
+entries_of bytes page_size class records = map (λ item. record_from bytes page_size class item.place) records
 
 -- the records of a live journal: Good are those of the longest prefix in which each fits, the next is Bad, and those
 -- after it are After
 unfoldable pub graded : List ℕ → ℕ → List Record → List Entry
 graded bytes page_size records =
-    let good = prefix_len (fits bytes page_size) records in
+    let good = prefix_len (record_fits bytes page_size) records in
     entries_of bytes page_size Good (take good records)
     ++ entries_of bytes page_size Bad (take 1 (drop good records))
     ++ entries_of bytes page_size After (drop (good + 1) records)
@@ -77,10 +77,10 @@ unchecked bytes page_size =
     entries_of bytes page_size Unchecked (records_from page_size 512 0 (whole_records bytes page_size 512))
 
 -- the class is Good
-abbrev pub is_good : Class → Bool
-is_good Good = true
-is_good _ = false
+abbrev pub is_good_class : Class → Bool
+is_good_class Good = true
+is_good_class _ = false
 
 -- how many of the records are Good
 abbrev pub good_count : List Entry → ℕ
-good_count entries = count_by (λ entry. is_good entry.class) entries
+good_count entries = count_by (λ entry. is_good_class entry.class) entries

@@ -3,7 +3,7 @@ use Rattle.std.specs.Prelude.{◌≡◌, ◌^◌, ◌<◌, Bool, if◌then◌els
 use Rattle.sx_base.specs.declared.moment.Class.{Class}
 use Rattle.sx_base.specs.declared.moment.Class.TheVariants.{Good, Bad, After}
 use Rattle.sx_journal.specs.declared.entry.Entry.{Entry}
-use Rattle.sx_journal.specs.Entries.{Record, fits, entry_at, good_count}
+use Rattle.sx_journal.specs.Entries.{Record, record_fits, record_from, good_count}
 
 -- the class of a record behind these: Good or Bad where all of them are Good, else After
 abbrev pub class_behind : List Entry → Bool → Class
@@ -13,7 +13,7 @@ class_behind before fitting =
 -- one record more
 unfoldable pub with_record : List ℕ → ℕ → List Entry → Record → List Entry
 with_record bytes page_size before item =
-    before ++ entry_at bytes page_size (class_behind before (fits bytes page_size item)) item.place ∷ []
+    before ++ record_from bytes page_size (class_behind before (record_fits bytes page_size item)) item.place ∷ []
 
 -- these records more
 abbrev pub with_records : List ℕ → ℕ → List Entry → List Record → List Entry

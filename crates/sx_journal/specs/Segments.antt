@@ -31,7 +31,7 @@ following bytes page_size sector header =
     let next = next_multiple_of (header + sector + count * record_len page_size) sector in
     if is_counted count && (nat_le count (whole_records bytes page_size (header + sector)) && has_header bytes next) then Some next else None
 
--- the segment with that header, where so many entries stand in the segments before it
+-- the segment with that header, where so many records stand in the segments before it
 unfoldable pub segment_at : List ℕ → ℕ → ℕ → ℕ → ℕ → Segment
 segment_at bytes page_size sector header first = record {
   offset = header;
@@ -41,7 +41,7 @@ segment_at bytes page_size sector header first = record {
   entries = records_behind bytes page_size sector header;
 }
 
--- the list is that of the segments from a header on, if there is a header, where so many entries stand before it
+-- the list is that of the segments from a header on, if there is a header, where so many records stand before it
 abbrev pub AreSegments : List ℕ → ℕ → ℕ → ℕ → Option ℕ → List Segment → Type 0
 AreSegments bytes page_size sector first header [] = header ≡ None
 AreSegments bytes page_size sector first header (segment ∷ rest) =

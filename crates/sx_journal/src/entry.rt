@@ -1,7 +1,7 @@
 //! The records of a journal.
 ghost use Rattle.std.specs.Prelude.{◌≡◌, ◌+◌, ◌-◌, ◌*◌, ◌^◌, ◌<◌, ◌≤◌, length};
 ghost use Rattle.sx_journal.specs.Segments.{record_len};
-ghost use Rattle.sx_journal.specs.Entries.{sampled, checksum, fits, entry_at};
+ghost use Rattle.sx_journal.specs.Entries.{sampled, checksum, record_fits, record_from};
 
 use sx_base::Class;
 use sx_bytes::be32;
@@ -42,11 +42,11 @@ fn checksum(nonce: u32, page: &[u8]) -> u32
 }
 
 /// Whether the record at `place` fits: its page number isn't 0 and its checksum is right.
-#[tactic(auto, unfolding(crate::specs::Entries::fits))]
-pub fn fits(bytes: &[u8], page_size: u32, place: usize, nonce: u32) -> bool
+#[tactic(auto, unfolding(crate::specs::Entries::record_fits))]
+pub fn record_fits(bytes: &[u8], page_size: u32, place: usize, nonce: u32) -> bool
     requires page_size { page_size ≤ 65536 }
     requires held { place + record_len page_size ≤ length bytes.now }
-    ensures { result ≡ fits bytes.now page_size (record { place = place; nonce = nonce }) }
+    ensures { result ≡ record_fits bytes.now page_size (record { place = place; nonce = nonce }) }
 {
     let (_, from_page) = bytes.split_at(place + 4);
     let (page, _) = from_page.split_at(page_size as usize);
@@ -55,11 +55,11 @@ pub fn fits(bytes: &[u8], page_size: u32, place: usize, nonce: u32) -> bool
 
 impl Entry {
     /// Reads the record at `place`.
-    #[tactic(auto, unfolding(crate::specs::Entries::entry_at))]
+    #[tactic(auto, unfolding(crate::specs::Entries::record_from))]
     pub fn read(bytes: &[u8], page_size: u32, place: usize, class: Class) -> Self
         requires page_size { page_size ≤ 65536 }
         requires held { place + record_len page_size ≤ length bytes.now }
-        ensures { result ≡ entry_at bytes.now page_size class place }
+        ensures { result ≡ record_from bytes.now page_size class place }
     {
         Entry {
             page: be32(bytes, place),

@@ -176,6 +176,6 @@ impl JournalIndex {
 /// Each record of a journal lies in its file, with its page and the checksum behind it. This is a law of the definitions;
 /// the function has no code.
 #[tactic(auto, using(crate::proofs::Held::journal_held))]
-pub fn entries_lie_in_file()
+pub fn records_lie_in_file()
     ensures { (bytes : List ℕ) (page_size : ℕ) → All (λ entry. entry.offset + page_size + 4 ≤ length bytes) (journal_of (Some bytes) page_size).entries }
 {}

@@ -13,7 +13,7 @@ mod state;
 mod walk;
 
 pub use entry::Entry;
-pub use index::{JournalIndex, entries_lie_in_file, read_journal};
+pub use index::{JournalIndex, read_journal, records_lie_in_file};
 pub use segment::{Segment, segments_by_readings};
 pub use state::JournalState;
 

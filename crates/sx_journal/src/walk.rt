@@ -6,7 +6,7 @@ ghost use Rattle.sx_journal.specs.Grading.{with_record, with_records};
 ghost use Rattle.sx_base.specs.declared.moment.Class.TheVariants.{Unchecked};
 
 use crate::entries::Entries;
-use crate::entry::{Entry, fits};
+use crate::entry::{Entry, record_fits};
 use crate::segment::{Segment, following, record_len};
 use std::alloc::{AllocError, Global};
 use sx_base::Class;
@@ -27,7 +27,7 @@ fn read_record(
 {
     let class = if !entries.all_good() {
         Class::After
-    } else if fits(bytes, page_size, place, nonce) {
+    } else if record_fits(bytes, page_size, place, nonce) {
         Class::Good
     } else {
         Class::Bad

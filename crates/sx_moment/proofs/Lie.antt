@@ -58,7 +58,7 @@ pub stands_whole : (case : Gathered) (number : ℕ) (origin : Origin) → IsGath
     → IsWhole case (place_of case number origin)
 stands_whole case number Database gathered stands = page_fits case.header.page_size (length case.database) number stands.0 stands.1
 stands_whole case number (Slot i) gathered stands = gathered.slots i stands
-stands_whole case number (Record i) gathered stands = gathered.entries i stands
+stands_whole case number (Record i) gathered stands = gathered.records i stands
 
 whole_long : (case : Gathered) (place : Place) → IsWhole case place → length (bytes_from case place) ≡ case.header.page_size
 whole_long case place whole =

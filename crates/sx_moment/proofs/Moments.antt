@@ -12,7 +12,7 @@ use Rattle.sx_base.specs.declared.moment.Moment.TheVariants.{Journal, File, Comm
 use Rattle.sx_base.specs.Places.{last_place}
 use Rattle.sx_chain.specs.Newest.{has_number}
 use Rattle.sx_base.proofs.Places.{last_place_passes}
-use Rattle.sx_moment.specs.Gathered.{Gathered, limit_at, is_live, is_moment, moments_of}
+use Rattle.sx_moment.specs.Gathered.{Gathered, limit_at, is_live_state, is_moment, moments_of}
 use Rattle.sx_moment.specs.Views.{slot_pages, is_good_record, image_at}
 use Rattle.sx_moment.specs.Parts.{IsGathered, Stands, first_record}
 use Rattle.sx_moment.specs.declared.origin.Origin.TheVariants as origins
@@ -99,7 +99,7 @@ is_listed live n Journal = live
 is_listed live n File = true
 is_listed live n (Commit k) = nat_le 1 k && nat_le k n
 
-same_test : (case : Gathered) (moment : Moment) → is_listed (is_live case.journal.state) (length case.wal.commits) moment ≡ is_moment case moment
+same_test : (case : Gathered) (moment : Moment) → is_listed (is_live_state case.journal.state) (length case.wal.commits) moment ≡ is_moment case moment
 unfolding is_listed
 same_test case Journal = refl
 same_test case File = refl
@@ -156,6 +156,6 @@ back live n moment among =
 -- the list has the moments that pass the test
 pub moments_listed : (case : Gathered) (moment : Moment) → IsTrue (is_moment case moment) ↔ Contains (moments_of case) moment
 moments_listed case moment = (
-  λ is. there (is_live case.journal.state) (length case.wal.commits) moment (same_test case moment ∙ is),
-  λ among. sym (same_test case moment) ∙ back (is_live case.journal.state) (length case.wal.commits) moment among,
+  λ is. there (is_live_state case.journal.state) (length case.wal.commits) moment (same_test case moment ∙ is),
+  λ among. sym (same_test case moment) ∙ back (is_live_state case.journal.state) (length case.wal.commits) moment among,
 )

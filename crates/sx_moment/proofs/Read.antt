@@ -10,7 +10,7 @@ use Rattle.sx_wal.specs.Wal.{Wal, IsFrame, log_of, wal_of}
 use Rattle.sx_wal.specs.Frames.{frame_at}
 use Rattle.sx_wal.specs.declared.slot.Slot.{Slot}
 use Rattle.sx_journal.specs.Journal.{Journal, journal_of}
-use Rattle.sx_moment.specs.Gathered.{bytes_in, no_slot, no_entry}
+use Rattle.sx_moment.specs.Gathered.{bytes_in, no_slot, no_record}
 use Rattle.sx_moment.specs.Parts.{IsGathered, IsSmall, gathered_by}
 
 -- what the reader of logs says of each slot
@@ -18,8 +18,8 @@ abbrev FrameLaw : Type 0
 FrameLaw = (page_size : ℕ) (bytes : List ℕ) (i : ℕ) (slot : Slot) → slice_get (log_of page_size bytes).slots i ≡ Some slot → IsFrame page_size bytes i slot
 
 -- what the reader of journals says of each record
-abbrev EntryLaw : Type 0
-EntryLaw = (bytes : List ℕ) (page_size : ℕ) → All (λ entry. entry.offset + page_size + 4 ≤ length bytes) (journal_of (Some bytes) page_size).entries
+abbrev RecordLaw : Type 0
+RecordLaw = (bytes : List ℕ) (page_size : ℕ) → All (λ entry. entry.offset + page_size + 4 ≤ length bytes) (journal_of (Some bytes) page_size).entries
 
 slots_fit : (page_size : ℕ) (wal : Option (List ℕ)) → FrameLaw → (i : ℕ) → i < length (wal_of wal page_size).slots
     → (slice_index_or (wal_of wal page_size).slots i no_slot).offset + page_size ≤ length (bytes_in wal)
@@ -47,11 +47,11 @@ slots_few page_size (Some bytes) law least small =
       | inr none ↦ omega arith
     ]
 
-entries_fit : (page_size : ℕ) (journal : Option (List ℕ)) → EntryLaw → (i : ℕ) → i < length (journal_of journal page_size).entries
-    → (slice_index_or (journal_of journal page_size).entries i no_entry).offset + page_size ≤ length (bytes_in journal)
+records_held : (page_size : ℕ) (journal : Option (List ℕ)) → RecordLaw → (i : ℕ) → i < length (journal_of journal page_size).entries
+    → (slice_index_or (journal_of journal page_size).entries i no_record).offset + page_size ≤ length (bytes_in journal)
 unfolding journal_of
-entries_fit page_size None law i below = absurd (omega arith)
-entries_fit page_size (Some bytes) law i below = let fits = law bytes page_size i no_entry below in omega (arith, fits)
+records_held page_size None law i below = absurd (omega arith)
+records_held page_size (Some bytes) law i below = let fits = law bytes page_size i no_record below in omega (arith, fits)
 
 -- the commits of a log that may be absent rise
 pub commits_rise : (page_size : ℕ) (wal : Option (List ℕ)) → ((page_size : ℕ) (bytes : List ℕ) → IsStrictlyIncreasing (log_of page_size bytes).commits)
@@ -69,11 +69,11 @@ pub gathered_is : (header : Header) (database : List ℕ) (wal_bytes journal_byt
     → ((k : ℕ) → k < length wal.commits → slice_index wal.commits k < length wal.slots)
     → IsStrictlyIncreasing wal.commits
     → IsGathered (gathered_by header database wal_bytes journal_bytes wal journal)
-gathered_is header database wal_bytes journal_bytes wal journal slot_law entry_law ranges small wal_is journal_is fewer commits_within rising = record {
+gathered_is header database wal_bytes journal_bytes wal journal slot_law record_law ranges small wal_is journal_is fewer commits_within rising = record {
   ranges = ranges;
   small = small;
   slots = rw wal_is (slots_fit header.page_size wal_bytes slot_law);
-  entries = rw journal_is (entries_fit header.page_size journal_bytes entry_law);
+  records = rw journal_is (records_held header.page_size journal_bytes record_law);
   few_slots = rw wal_is (slots_few header.page_size wal_bytes slot_law ranges.page_size.least small.wal_small);
   few_commits = fewer;
   commits = commits_within;

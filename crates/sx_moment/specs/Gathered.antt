@@ -43,16 +43,16 @@ bytes_in (Some bytes) = bytes
 abbrev pub no_slot : Slot
 no_slot = record { page = 0; commit_size = 0; offset = 0; class = Broken }
 
-abbrev pub no_entry : Entry
-no_entry = record { page = 0; offset = 0; sum = 0; class = Bad }
+abbrev pub no_record : Entry
+no_record = record { page = 0; offset = 0; sum = 0; class = Bad }
 
 -- slot i of the log, from 0
 abbrev pub slot_at : Gathered → ℕ → Slot
 slot_at case i = slice_index_or case.wal.slots i no_slot
 
 -- record i of the journal, from 0
-abbrev pub entry_at : Gathered → ℕ → Entry
-entry_at case i = slice_index_or case.journal.entries i no_entry
+abbrev pub record_at : Gathered → ℕ → Entry
+record_at case i = slice_index_or case.journal.entries i no_record
 
 -- how many whole pages the file has
 abbrev pub page_count : Gathered → ℕ
@@ -81,17 +81,17 @@ limit_at case (Commit k) = commit_at case k + 1
 limit_at case moment = 0
 
 -- the journal is live
-abbrev pub is_live : JournalState → Bool
-is_live Live = true
-is_live _ = false
+abbrev pub is_live_state : JournalState → Bool
+is_live_state Live = true
+is_live_state _ = false
 
 -- the moments: the live journal's, the file's, and those of the commits
 abbrev pub moments_of : Gathered → List Moment
 moments_of case =
-    (if is_live case.journal.state then Journal ∷ [] else []) ++ File ∷ map Commit (range_with_len 1 (length case.wal.commits))
+    (if is_live_state case.journal.state then Journal ∷ [] else []) ++ File ∷ map Commit (range_with_len 1 (length case.wal.commits))
 
 -- a moment is one of them
 abbrev pub is_moment : Gathered → Moment → Bool
-is_moment case Journal = is_live case.journal.state
+is_moment case Journal = is_live_state case.journal.state
 is_moment case File = true
 is_moment case (Commit k) = nat_le 1 k && nat_le k (length case.wal.commits)

@@ -9,7 +9,7 @@ use Rattle.sx_header.specs.Header.{HasRanges}
 use Rattle.sx_header.specs.declared.header.Header.{Header}
 use Rattle.sx_wal.specs.Wal.{Wal, wal_of}
 use Rattle.sx_journal.specs.Journal.{Journal, journal_of}
-use Rattle.sx_moment.specs.Gathered.{Gathered, bytes_in, slot_at, entry_at, page_count, size_at, limit_at}
+use Rattle.sx_moment.specs.Gathered.{Gathered, bytes_in, slot_at, record_at, page_count, size_at, limit_at}
 use Rattle.sx_base.specs.Places.{first_place}
 use Rattle.sx_moment.specs.Views.{slot_pages, is_good_record, lock_in, image_at}
 use Rattle.sx_moment.specs.Marks.{is_same}
@@ -28,7 +28,7 @@ pub record IsSmall (database : List ℕ) (wal journal : Option (List ℕ)) : Typ
 pub record IsGathered (case : Gathered) : Type 0 where
   pub ranges : HasRanges case.header
   pub slots : (i : ℕ) → i < length case.wal.slots → (slot_at case i).offset + case.header.page_size ≤ length (bytes_in case.wal_bytes)
-  pub entries : (i : ℕ) → i < length case.journal.entries → (entry_at case i).offset + case.header.page_size ≤ length (bytes_in case.journal_bytes)
+  pub records : (i : ℕ) → i < length case.journal.entries → (record_at case i).offset + case.header.page_size ≤ length (bytes_in case.journal_bytes)
   pub small : IsSmall case.database case.wal_bytes case.journal_bytes
   pub few_slots : length case.wal.slots < 2 ^ 31
   pub few_commits : length case.wal.commits ≤ length case.wal.slots

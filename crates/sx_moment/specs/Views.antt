@@ -9,8 +9,8 @@ use Rattle.sx_base.specs.declared.moment.Moment.{Moment}
 use Rattle.sx_base.specs.declared.moment.Moment.TheVariants.{Journal, File, Commit}
 use Rattle.sx_base.specs.Places.{first_place, last_place}
 use Rattle.sx_chain.specs.Newest.{has_number}
-use Rattle.sx_journal.specs.Entries.{is_good}
-use Rattle.sx_moment.specs.Gathered.{Gathered, bytes_in, slot_at, entry_at, page_count, size_at, limit_at}
+use Rattle.sx_journal.specs.Entries.{is_good_class}
+use Rattle.sx_moment.specs.Gathered.{Gathered, bytes_in, slot_at, record_at, page_count, size_at, limit_at}
 use Rattle.sx_moment.specs.declared.origin.Origin.{Origin}
 use Rattle.sx_moment.specs.declared.origin.Origin.TheVariants.{Database, Slot, Record}
 
@@ -20,7 +20,7 @@ slot_pages case = map (λ slot. slot.page) case.wal.slots
 
 -- record i is Good and holds the page
 abbrev pub is_good_record : Gathered → ℕ → ℕ → Bool
-is_good_record case number i = is_good (entry_at case i).class && ((entry_at case i).page == number)
+is_good_record case number i = is_good_class (record_at case i).class && ((record_at case i).page == number)
 
 -- The image of a page that a moment has outside the file: at the journal's the first Good record of the page, at a
 -- commit the last slot of the page up to the commit's.
@@ -51,7 +51,7 @@ origin_of case moment number =
 abbrev pub place_of : Gathered → ℕ → Origin → Place
 place_of case number Database = record { part = parts.Database; offset = (number - 1) * case.header.page_size }
 place_of case number (Slot i) = record { part = parts.Wal; offset = (slot_at case i).offset }
-place_of case number (Record i) = record { part = parts.Journal; offset = (entry_at case i).offset }
+place_of case number (Record i) = record { part = parts.Journal; offset = (record_at case i).offset }
 
 -- the bytes of one of the files
 abbrev pub part_bytes : Gathered → Part → List ℕ

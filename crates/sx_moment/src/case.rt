@@ -9,7 +9,7 @@ ghost use Rattle.sx_header.specs.Header.{HasRanges, header_of};
 ghost use Rattle.sx_wal.specs.Wal.{wal_of};
 ghost use Rattle.sx_journal.specs.Journal.{journal_of};
 ghost use Rattle.sx_moment.specs.Heads.{accepted, head_of, layout_of, encoding_at, FitsPages, IsLayout};
-ghost use Rattle.sx_moment.specs.Gathered.{gathered, page_count, size_at, limit_at, is_live, is_moment, moments_of};
+ghost use Rattle.sx_moment.specs.Gathered.{gathered, page_count, size_at, limit_at, is_live_state, is_moment, moments_of};
 ghost use Rattle.sx_moment.specs.Views.{slot_pages, image_at, origin_of, view_of, source_of, bytes_of, place_of, bytes_from, IsWhole};
 ghost use Rattle.sx_moment.specs.Marks.{is_uncertain, uncertain_pages};
 ghost use Rattle.sx_moment.specs.Firsts.{Rises, first_in, is_taken};
@@ -172,7 +172,7 @@ impl<'a> Case<'a> {
 
     // How many moments stand before the file's.
     fn before_file(&self) -> u32
-        ensures { result ≡ (if is_live self.now.journal.state then 1 else 0) }
+        ensures { result ≡ (if is_live_state self.now.journal.state then 1 else 0) }
     {
         if self.sources.has_journal() { 1 } else { 0 }
     }
@@ -263,7 +263,7 @@ impl<'a> Case<'a> {
             },
             Origin::Record(i) => Place {
                 part: Part::Journal,
-                offset: self.sources.entry(i).offset,
+                offset: self.sources.record(i).offset,
             },
         }
     }
@@ -309,7 +309,7 @@ impl<'a> Case<'a> {
         ensures seen { limit_at self.now moment ≤ length self.now.wal.slots }
     {
         match moment {
-            Moment::Journal => self.sources.entries(),
+            Moment::Journal => self.sources.records(),
             _ => self.sources.limit(moment),
         }
     }
@@ -364,7 +364,7 @@ impl<'a> Case<'a> {
         ensures { length (file_pages_at self.now moment) + result ≡ length (held_pages (size_at self.now moment) (view_of self.now moment)) }
     {
         match moment {
-            Moment::Journal => self.past_records.count_taken(self.sources.entries(), size),
+            Moment::Journal => self.past_records.count_taken(self.sources.records(), size),
             Moment::File => 0,
             Moment::Commit(k) => self.past_counts[k as usize - 1],
         }
@@ -414,7 +414,7 @@ impl<'a> Case<'a> {
     }
 
     // Whether a marked page is uncertain at a moment.
-    fn is_taken(&self, moment: Moment, size: u32, mark: FirstImage) -> bool
+    fn is_uncertain_mark(&self, moment: Moment, size: u32, mark: FirstImage) -> bool
         requires listed { IsTrue (is_moment self.now moment) }
         requires first { first_slot self.now mark.page ≡ Some mark.first }
         ensures { result ≡ is_taken (is_bare self.now moment) size mark }
@@ -428,7 +428,11 @@ impl<'a> Case<'a> {
         ensures { result ≡ is_uncertain self.now moment no }
     {
         match self.marks.find(no) {
-            Some(first) => self.is_taken(moment, self.size(moment), FirstImage { page: no, first }),
+            Some(first) => self.is_uncertain_mark(
+                moment,
+                self.size(moment),
+                FirstImage { page: no, first },
+            ),
             None => false,
         }
     }
@@ -455,7 +459,7 @@ impl<'a> Case<'a> {
         let size = self.size(moment);
         let mut count = 0;
         for i in 0..self.marks.len() {
-            if self.is_taken(moment, size, self.marks.at(i)) {
+            if self.is_uncertain_mark(moment, size, self.marks.at(i)) {
                 count += 1;
             }
         }

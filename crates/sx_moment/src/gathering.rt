@@ -3,7 +3,7 @@ ghost use Rattle.std.specs.Prelude.{◌≡◌, ℕ, ◌<◌, ◌≤◌, ◌||◌
 ghost use Rattle.std.specs.Ordering.{nat_cmp};
 ghost use Rattle.std.specs.BTreeMap.{get};
 ghost use Rattle.sx_chain.specs.Newest.{has_number};
-ghost use Rattle.sx_journal.specs.Entries.{is_good};
+ghost use Rattle.sx_journal.specs.Entries.{is_good_class};
 ghost use Rattle.sx_moment.specs.Gathered.{page_count};
 ghost use Rattle.sx_moment.specs.Views.{lock_in, slot_pages};
 ghost use Rattle.sx_moment.specs.Marks.{is_same};
@@ -44,9 +44,9 @@ pub fn first_records(alloc: Global, sources: &Sources<'_>) -> Result<BTreeMap<u3
     ensures { IfOk result (λ found. (number : ℕ) → get nat_cmp found number ≡ first_record sources.now number) }
 {
     let mut found = BTreeMap::new(alloc);
-    for i in 0..sources.entries() {
-        let entry = sources.entry(i);
-        note(&mut found, is_good(entry.class), entry.page, i)?;
+    for i in 0..sources.records() {
+        let item = sources.record(i);
+        note(&mut found, is_good_class(item.class), item.page, i)?;
     }
     Ok(found)
 }
@@ -133,8 +133,8 @@ fn push_if(
 }
 
 // Whether a record is Good.
-fn is_good(class: Class) -> bool
-    ensures { result ≡ is_good class }
+fn is_good_class(class: Class) -> bool
+    ensures { result ≡ is_good_class class }
 {
     matches!(class, Class::Good)
 }

@@ -1,6 +1,6 @@
 //! The evidence with what its files were read as.
 ghost use Rattle.std.specs.Prelude.{◌≡◌, ℕ, ◌+◌, ◌-◌, ◌*◌, ◌^◌, ◌<◌, ◌≤◌, ◌&&◌, IsTrue, Some, length, slice_index, option_copied, IfOk};
-ghost use Rattle.sx_moment.specs.Gathered.{gathered, bytes_in, slot_at, entry_at, page_count, file_size, size_at, limit_at, commit_at, is_live, is_moment};
+ghost use Rattle.sx_moment.specs.Gathered.{gathered, bytes_in, slot_at, record_at, page_count, file_size, size_at, limit_at, commit_at, is_live_state, is_moment};
 ghost use Rattle.sx_moment.specs.Views.{lock_in, place_of, bytes_of, is_good_record, slot_pages};
 ghost use Rattle.sx_moment.specs.Parts.{IsGathered, IsSmall, is_in_file};
 ghost use Rattle.sx_moment.specs.Marks.{is_committed, is_same};
@@ -16,7 +16,7 @@ use std::alloc::{AllocError, Global};
 use std::marker::Model;
 use sx_base::{Class, Moment, Part, Place, lock_page};
 use sx_header::Header;
-use sx_journal::{Entry, JournalIndex, JournalState, entries_lie_in_file, read_journal};
+use sx_journal::{Entry, JournalIndex, JournalState, read_journal, records_lie_in_file};
 use sx_wal::{Slot, WalIndex, commits_stand, read_wal, slots_stand};
 
 /// The evidence, its database's header, and what its log and its journal were read as.
@@ -52,7 +52,7 @@ impl<'a> Sources<'a> {
         let journal = read_journal(alloc, evidence.journal, header.page_size)?;
         slots_stand();
         commits_stand();
-        entries_lie_in_file();
+        records_lie_in_file();
         Ok(Sources {
             header,
             evidence,
@@ -119,15 +119,15 @@ impl<'a> Sources<'a> {
     }
 
     /// Record `i` of the journal, from 0.
-    pub fn entry(&self, i: u32) -> Entry
+    pub fn record(&self, i: u32) -> Entry
         requires { i < length self.now.journal.entries }
-        ensures { result ≡ entry_at self.now i }
+        ensures { result ≡ record_at self.now i }
     {
         self.journal.entry(i)
     }
 
     /// How many records the journal has.
-    pub fn entries(&self) -> u32
+    pub fn records(&self) -> u32
         ensures { result ≡ length self.now.journal.entries }
     {
         self.journal.entries()
@@ -174,7 +174,7 @@ impl<'a> Sources<'a> {
 
     /// Whether the journal is live.
     pub fn has_journal(&self) -> bool
-        ensures { result ≡ is_live self.now.journal.state }
+        ensures { result ≡ is_live_state self.now.journal.state }
     {
         matches!(self.journal.state(), JournalState::Live)
     }
@@ -266,7 +266,7 @@ impl<'a> Sources<'a> {
         ensures bytes { (number : ℕ) → result.now ≡ bytes_of self.now number (Origin.Record i) }
         ensures whole { length result.now ≡ self.now.header.page_size }
     {
-        let start = self.entry(i).offset as usize;
+        let start = self.record(i).offset as usize;
         let journal = present(self.evidence.journal);
         &journal[start..start + self.header.page_size as usize]
     }

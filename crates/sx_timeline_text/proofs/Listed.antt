@@ -8,7 +8,7 @@ use Rattle.std.proofs.lemmas.Option.{slice_get_within}
 use Rattle.sx_base.specs.declared.moment.Moment.{Moment}
 use Rattle.sx_base.specs.declared.moment.Moment.TheVariants.{Journal, File, Commit}
 use Rattle.sx_moment.proofs.Moments.{commit_listed}
-use Rattle.sx_moment.specs.Gathered.{Gathered, moments_of, is_moment, is_live}
+use Rattle.sx_moment.specs.Gathered.{Gathered, moments_of, is_moment, is_live_state}
 
 -- a moment is one of those of a case with a live journal or without, and with so many commits
 abbrev is_listed : Bool → ℕ → Moment → Bool
@@ -42,14 +42,14 @@ each_listed false n (suc j) moment found =
     let within = slice_get_within (File ∷ map Commit (range_with_len 1 n)) (suc j) moment found in
     commit_within false n (suc j) 0 moment refl (omega arith) (omega (arith, long, within)) within found
 
-same_test : (case : Gathered) (moment : Moment) → is_listed (is_live case.journal.state) (length case.wal.commits) moment ≡ is_moment case moment
+same_test : (case : Gathered) (moment : Moment) → is_listed (is_live_state case.journal.state) (length case.wal.commits) moment ≡ is_moment case moment
 same_test case Journal = refl
 same_test case File = refl
 same_test case (Commit k) = refl
 
 -- a moment of the list is one of the case
 pub listed_is : (case : Gathered) (i : ℕ) (moment : Moment) → slice_get (moments_of case) i ≡ Some moment → IsTrue (is_moment case moment)
-listed_is case i moment listed = subst IsTrue (same_test case moment) (each_listed (is_live case.journal.state) (length case.wal.commits) i moment listed)
+listed_is case i moment listed = subst IsTrue (same_test case moment) (each_listed (is_live_state case.journal.state) (length case.wal.commits) i moment listed)
 
 never : {moment : Moment} → (let none : Option Moment = None in none ≡ Some moment) → ⊥
 never is = cc

@@ -2,7 +2,7 @@ use Rattle.std.proofs.Common.{ap, sym, ◌∙◌, ◌≡◌, ℕ, Option, ◌&&�
 use Rattle.std.specs.Ordering.{nat_cmp, is_eq}
 use Rattle.std.specs.Map.{lookup}
 use Rattle.sx_journal.specs.declared.entry.Entry.{Entry}
-use Rattle.sx_journal.specs.Entries.{is_good}
+use Rattle.sx_journal.specs.Entries.{is_good_class}
 use Rattle.sx_moment.specs.Views.{is_good_record}
 use Rattle.sx_moment.specs.Parts.{noted}
 use Rattle.sx_base.proofs.Places.{first_place-zero}
@@ -14,8 +14,8 @@ loop-i-init c = λ number. ap (lookup (λ k. is_eq (nat_cmp number k))) c.new-fo
 
 pub loop-i-preserved : goal.loop-i-preserved
 loop-i-preserved c = λ number.
-    let is : is_good_record c.args.sources.now number c.loop-i.i ≡ (c.is_good.result && (c.entry-entry.result.page == number)) =
-    ap (λ (e : Entry). is_good e.class && (e.page == number)) (sym c.entry-entry.ensures) ∙ ap (λ b. b && (c.entry-entry.result.page == number)) (sym c.is_good.ensures) in
+    let is : is_good_record c.args.sources.now number c.loop-i.i ≡ (c.is_good_class.result && (c.record-item.result.page == number)) =
+    ap (λ (e : Entry). is_good_class e.class && (e.page == number)) (sym c.record-item.ensures) ∙ ap (λ b. b && (c.record-item.result.page == number)) (sym c.is_good_class.ensures) in
     c.in_ok-note.ensures number
-    ∙ ap (λ (o : Option ℕ). noted c.is_good.result c.entry-entry.result.page c.loop-i.i o number) (c.loop-i.invariant number)
-    ∙ note_step (is_good_record c.args.sources.now number) c.is_good.result c.entry-entry.result.page c.loop-i.i number is
+    ∙ ap (λ (o : Option ℕ). noted c.is_good_class.result c.record-item.result.page c.loop-i.i o number) (c.loop-i.invariant number)
+    ∙ note_step (is_good_record c.args.sources.now number) c.is_good_class.result c.record-item.result.page c.loop-i.i number is

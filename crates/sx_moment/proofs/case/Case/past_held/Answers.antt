@@ -32,7 +32,7 @@ pub returns-in-Journal : goal.returns-in-Journal
 returns-in-Journal c =
     let case = c.args.self.now in
     let are : (number : ℕ) → first_in c.self.inside.past_records number ≡ past_only case (first_record case) number = rw (← c.self.view_is) c.self.invariant.past_records_are in
-    let entries : c.entries.result ≡ length case.journal.entries = rw (← c.self.view_is) c.entries.ensures in
+    let records : c.records.result ≡ length case.journal.entries = rw (← c.self.view_is) c.records.ensures in
     let size : c.args.size ≡ size_at case Journal = rw c.in-Journal.is at c.requires.size in
-    rw c.in-Journal.is (held_count case Journal c.self.inside.past_records c.entries.result c.args.size (length (file_pages_at case Journal)) c.count_taken.result
-    (record { within = omega arith; rise = c.self.invariant.past_records_rise; are = are; bound_is = entries; size_is = size }) refl c.count_taken.ensures)
+    rw c.in-Journal.is (held_count case Journal c.self.inside.past_records c.records.result c.args.size (length (file_pages_at case Journal)) c.count_taken.result
+    (record { within = omega arith; rise = c.self.invariant.past_records_rise; are = are; bound_is = records; size_is = size }) refl c.count_taken.ensures)
