@@ -38,56 +38,6 @@ fn check_journal(
 }
 
 #[test]
-fn good_records_are_given_back(rt: HostRuntime) -> Result<(), Fail> {
-    let alloc = rt.alloc();
-    check_journal(
-        &rt,
-        alloc,
-        2,
-        &[
-            (2, Image::Filled(5), 0),
-            (1, Image::Head(2), 0),
-            (2, Image::Filled(6), 1),
-        ],
-        "journal pages 2 held 2 uncertain 0\n1 journal 2052\n2 journal 516\n0 pages 2 held 2 uncertain 0\n1 database 0\n2 database 512\n",
-    )?;
-    check_journal(
-        &rt,
-        alloc,
-        2,
-        &[
-            (2, Image::Filled(5), 0),
-            (2, Image::Filled(6), 1),
-            (1, Image::Head(2), 0),
-        ],
-        "journal pages 2 held 2 uncertain 0\n1 database 0\n2 journal 516\n0 pages 2 held 2 uncertain 0\n1 database 0\n2 database 512\n",
-    )
-}
-
-#[test]
-fn the_file_is_smaller_than_the_journal_says(rt: HostRuntime) -> Result<(), Fail> {
-    let alloc = rt.alloc();
-    let small = database(alloc, &[Image::Head(1), Image::Filled(7)])?;
-    let early = journal(
-        alloc,
-        2,
-        &[
-            (2, Image::Filled(5), 0),
-            (2, Image::Filled(6), 1),
-            (1, Image::Head(2), 0),
-        ],
-    )?;
-    check(
-        &rt,
-        alloc,
-        &small,
-        None,
-        Some(&early),
-        "journal pages 2 held 2 uncertain 0\n1 database 0\n2 journal 516\n0 pages 1 held 1 uncertain 0\n1 database 0\n",
-    )
-}
-
-#[test]
 fn the_first_record_of_a_page_counts(rt: HostRuntime) -> Result<(), Fail> {
     check_journal(
         &rt,

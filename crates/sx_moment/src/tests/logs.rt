@@ -31,74 +31,6 @@ fn check_plain(
 }
 
 #[test]
-fn a_database_alone(rt: HostRuntime) -> Result<(), Fail> {
-    let alloc = rt.alloc();
-    let plain = database(alloc, &[Image::Head(2), Image::Filled(7)])?;
-    check(
-        &rt,
-        alloc,
-        &plain,
-        None,
-        None,
-        "0 pages 2 held 2 uncertain 0\n1 database 0\n2 database 512\n",
-    )
-}
-
-#[test]
-fn a_page_1_that_is_no_header(rt: HostRuntime) -> Result<(), Fail> {
-    check_plain(
-        &rt,
-        rt.alloc(),
-        &[(1, 2, Image::Filled(0))],
-        "0 pages 2 held 2 uncertain 0\n1 database 0\n2 database 512\n1 pages 2 held 2 uncertain 0\nno head\n1 wal 56\n2 database 512\n",
-    )
-}
-
-#[test]
-fn a_size_up_to_the_lock_byte_page(rt: HostRuntime) -> Result<(), Fail> {
-    check_plain(
-        &rt,
-        rt.alloc(),
-        &[(2, 2_097_153, Image::Filled(7))],
-        "0 pages 2 held 2 uncertain 1\n1 database 0\n2 database 512 uncertain\n1 pages 2097153 held 2 uncertain 0\n1 database 0\n2 wal 56\n",
-    )
-}
-
-#[test]
-fn commits_and_open_transactions(rt: HostRuntime) -> Result<(), Fail> {
-    let alloc = rt.alloc();
-    check_plain(
-        &rt,
-        alloc,
-        &[(2, 2, Image::Filled(8)), (2, 2, Image::Filled(9))],
-        "0 pages 2 held 2 uncertain 0\n1 database 0\n2 database 512\n1 pages 2 held 2 uncertain 0\n1 database 0\n2 wal 56\n2 pages 2 held 2 uncertain 0\n1 database 0\n2 wal 592\n",
-    )?;
-    check_plain(
-        &rt,
-        alloc,
-        &[(2, 0, Image::Filled(7)), (1, 0, Image::Head(2))],
-        "0 pages 2 held 2 uncertain 0\n1 database 0\n2 database 512\n",
-    )
-}
-
-#[test]
-fn views_that_a_checkpoint_may_have_written(rt: HostRuntime) -> Result<(), Fail> {
-    let alloc = rt.alloc();
-    check_plain(
-        &rt,
-        alloc,
-        &[(1, 0, Image::Head(2)), (2, 2, Image::Filled(7))],
-        "0 pages 2 held 2 uncertain 2\n1 database 0 uncertain\n2 database 512 uncertain\n1 pages 2 held 2 uncertain 0\n1 wal 56\n2 wal 592\n",
-    )?;
-    check_plain(
-        &rt,
-        alloc,
-        &[(2, 2, Image::Filled(7)), (2, 2, Image::Filled(8))],
-        "0 pages 2 held 2 uncertain 1\n1 database 0\n2 database 512 uncertain\n1 pages 2 held 2 uncertain 0\n1 database 0\n2 wal 56\n2 pages 2 held 2 uncertain 0\n1 database 0\n2 wal 592\n",
-    )
-}
-
-#[test]
 fn a_view_is_uncertain_until_a_frame_holds_it(rt: HostRuntime) -> Result<(), Fail> {
     check_plain(
         &rt,
@@ -109,24 +41,6 @@ fn a_view_is_uncertain_until_a_frame_holds_it(rt: HostRuntime) -> Result<(), Fai
             (1, 2, Image::Head(2)),
         ],
         "0 pages 2 held 2 uncertain 2\n1 database 0 uncertain\n2 database 512 uncertain\n1 pages 2 held 2 uncertain 1\n1 database 0 uncertain\n2 wal 56\n2 pages 2 held 2 uncertain 1\n1 database 0 uncertain\n2 wal 592\n3 pages 2 held 2 uncertain 0\n1 wal 1128\n2 wal 592\n",
-    )
-}
-
-#[test]
-fn sizes_that_shrink_and_grow(rt: HostRuntime) -> Result<(), Fail> {
-    let alloc = rt.alloc();
-    check_plain(
-        &rt,
-        alloc,
-        &[(1, 1, Image::Head(1)), (1, 4, Image::Head(2))],
-        "0 pages 2 held 2 uncertain 1\n1 database 0 uncertain\n2 database 512\n1 pages 1 held 1 uncertain 0\n1 wal 56\n2 pages 4 held 2 uncertain 0\n1 wal 592\n2 database 512\n",
-    )?;
-    check_log(
-        &rt,
-        alloc,
-        &[Image::Head(1)],
-        &[(1, 0, Image::Head(2)), (2, 2, Image::Filled(7))],
-        "0 pages 1 held 1 uncertain 0\n1 database 0\n1 pages 2 held 2 uncertain 0\n1 wal 56\n2 wal 592\n",
     )
 }
 
@@ -153,53 +67,6 @@ fn pages_past_the_end_of_the_file(rt: HostRuntime) -> Result<(), Fail> {
             (2, 4_294_967_295, Image::Filled(7)),
         ],
         "0 pages 2 held 2 uncertain 1\n1 database 0\n2 database 512 uncertain\n1 pages 4294967295 held 3 uncertain 0\n1 database 0\n2 wal 1128\n2097154 wal 592\n",
-    )
-}
-
-#[test]
-fn sizes_that_the_file_contradicts(rt: HostRuntime) -> Result<(), Fail> {
-    let alloc = rt.alloc();
-    let mut claims = database(alloc, &[Image::Head(9), Image::Filled(7)])?;
-    check(
-        &rt,
-        alloc,
-        &claims,
-        None,
-        None,
-        "0 pages 9 held 2 uncertain 0\n1 database 0\n2 database 512\n",
-    )?;
-    if let Some(byte) = claims.get_mut(95) {
-        *byte = 1;
-    }
-    check(
-        &rt,
-        alloc,
-        &claims,
-        None,
-        None,
-        "0 pages 2 held 2 uncertain 0\n1 database 0\n2 database 512\n",
-    )
-}
-
-#[test]
-fn files_that_are_cut(rt: HostRuntime) -> Result<(), Fail> {
-    let alloc = rt.alloc();
-    let plain = database(alloc, &[Image::Head(2), Image::Filled(7)])?;
-    check(
-        &rt,
-        alloc,
-        plain.get(..700).unwrap_or(&[]),
-        None,
-        None,
-        "0 pages 2 held 1 uncertain 0\n1 database 0\n",
-    )?;
-    check(
-        &rt,
-        alloc,
-        plain.get(..100).unwrap_or(&[]),
-        None,
-        None,
-        "0 pages 2 held 0 uncertain 0\nno head\n",
     )
 }
 
