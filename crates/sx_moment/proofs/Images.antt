@@ -1,5 +1,5 @@
 -- The entries of a map whose keys are kept, as pages with their first images.
-use Rattle.std.proofs.Common.{◌≡◌, ℕ, ◌+◌, ◌≤◌, Bool, true, false, cond, ◌==◌, List, [], ◌∷◌, ◌++◌, Option, None, refl, sym, ap, ◌∙◌, arith, inl, inr, append_assoc, append-nil}
+use Rattle.std.proofs.Common.{◌≡◌, ℕ, ◌+◌, ◌≤◌, Bool, true, false, cond, not, ◌==◌, List, [], ◌∷◌, ◌++◌, Option, None, refl, sym, ap, ◌∙◌, arith, inl, inr, append_assoc, append-nil}
 use Rattle.std.specs.List.{AllByRecursion}
 use Rattle.std.specs.List.Sorted.{IsStrictlySortedBy}
 use Rattle.std.specs.Ordering.{nat_cmp, is_eq}
@@ -11,6 +11,10 @@ use Rattle.std.proofs.lemmas.Map.Keys.{sorted_head, sorted_tail}
 use Rattle.sx_moment.specs.Firsts.{Rises, first_in}
 use Rattle.sx_moment.specs.Parts.{images_of}
 use Rattle.sx_moment.specs.declared.first_image.FirstImage.{FirstImage}
+
+-- a number that a page can have
+abbrev pub is_numbered : ℕ → Bool
+is_numbered number = not (number == 0)
 
 -- ---- look-ups
 

@@ -1,5 +1,5 @@
 -- One image after the other is noted.
-use Rattle.std.proofs.Common.{◌≡◌, ℕ, ◌+◌, Bool, true, false, cond, ◌&&◌, ◌||◌, ◌==◌, List, Option, Some, None, slice_index, is_some, refl, sym, ap, ◌∙◌, arith}
+use Rattle.std.proofs.Common.{◌≡◌, ℕ, ◌+◌, Bool, true, false, cond, not, ◌&&◌, ◌||◌, ◌==◌, List, Option, Some, None, slice_index, is_some, refl, sym, ap, ◌∙◌, arith}
 use Rattle.std.proofs.Math.ListN.{get_or-map}
 use Rattle.std.proofs.lemmas.Bool.{and_left, and_right, eqb-true}
 use Rattle.std.proofs.lemmas.Bool.Decides.{nat_tests}
@@ -11,7 +11,7 @@ use Rattle.sx_moment.specs.Views.{slot_pages, bytes_of}
 use Rattle.std.specs.Str.{bytes_eq}
 use Rattle.sx_moment.specs.Marks.{is_committed, is_same}
 use Rattle.sx_moment.specs.declared.origin.Origin.TheVariants.{Database, Slot}
-use Rattle.sx_moment.specs.Parts.{noted, is_in_file}
+use Rattle.sx_moment.specs.Parts.{noted, is_in_file, is_marked}
 use Rattle.sx_base.proofs.Places.{or_first, first_place-more, some_place, some_place-more}
 
 -- the page number of a slot
@@ -127,3 +127,15 @@ and_or false b c = refl
 -- one slot more
 pub any_step : (test : ℕ → Bool) (i : ℕ) (file : Bool) → ((file && some_place test i) || (file && test i)) ≡ (file && some_place test (i + 1))
 any_step test i file = and_or file (some_place test i) (test i) ∙ ap (λ b. file && b) (sym (some_place-more test i))
+
+numbered_case : (case : Gathered) (number : ℕ) (o : Option ℕ) (b : Bool) → (number == 0) ≡ b → is_some o ≡ is_marked case number
+    → is_some (cond (not (number == 0)) o None) ≡ is_marked case number
+numbered_case case number o false is marked = rw is marked
+numbered_case case number o true is marked =
+    let none : number ≡ 0 = eqb-true _ _ is in
+    rw is (sym (ap (is_marked case) none))
+
+-- no page is numbered 0, so nothing is lost without it
+pub marked_numbered : (case : Gathered) (number : ℕ) (o : Option ℕ) → is_some o ≡ is_marked case number
+    → is_some (cond (not (number == 0)) o None) ≡ is_marked case number
+marked_numbered case number o marked = numbered_case case number o (number == 0) refl marked

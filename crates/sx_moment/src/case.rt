@@ -74,17 +74,17 @@ impl<'a> Case<'a> {
             ≡ gathered header evidence.entry.database.now (option_copied evidence.entry.wal) (option_copied evidence.entry.journal)) }
     {
         let sources = Sources::read(alloc, header, evidence)?;
-        let slots = first_slots(alloc, &sources)?;
         let same = same_pages(alloc, &sources)?;
+        let slots = first_slots(alloc, &sources)?;
         let marks = marked_images(alloc, &slots, &same)?;
-        drop(same);
         let past = past_images(alloc, &slots, &sources)?;
         drop(slots);
+        drop(same);
+        let past_counts = counts_at_commits(alloc, &sources, &past)?;
+        let mark_counts = counts_at_commits(alloc, &sources, &marks)?;
         let records = first_records(alloc, &sources)?;
         let past_records = past_images(alloc, &records, &sources)?;
         let frames = chain_slots(alloc, &sources)?;
-        let past_counts = counts_at_commits(alloc, &sources, &past)?;
-        let mark_counts = counts_at_commits(alloc, &sources, &marks)?;
         Ok(Case {
             sources,
             frames,

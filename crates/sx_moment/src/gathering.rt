@@ -1,5 +1,5 @@
 //! What a case keeps beside the evidence: which images each page has first.
-ghost use Rattle.std.specs.Prelude.{◌≡◌, ℕ, ◌<◌, ◌≤◌, ◌||◌, ◌&&◌, Bool, if◌then◌else◌, None, [], ◌∷◌, ◌++◌, length, map, is_some, IfOk, OnOk};
+ghost use Rattle.std.specs.Prelude.{◌≡◌, ℕ, ◌<◌, ◌≤◌, ◌==◌, ◌||◌, ◌&&◌, Bool, not, if◌then◌else◌, None, [], ◌∷◌, ◌++◌, length, map, is_some, IfOk, OnOk};
 ghost use Rattle.std.specs.Ordering.{nat_cmp};
 ghost use Rattle.std.specs.BTreeMap.{get};
 ghost use Rattle.sx_chain.specs.Newest.{has_number};
@@ -53,7 +53,16 @@ pub fn first_records(alloc: Global, sources: &Sources<'_>) -> Result<BTreeMap<u3
 
 /// The pages of the file that some Committed slot equals, each with one such slot. A page of the file is compared at most
 /// once with each slot of it, and with none after one that equals it.
-pub fn same_pages(alloc: Global, sources: &Sources<'_>) -> Result<BTreeMap<u32, u32>, AllocError>
+pub fn same_pages(alloc: Global, sources: &Sources<'_>) -> Result<FirstImages, AllocError>
+    ensures { IfOk result (λ images. (number : ℕ) → is_some (first_in images number) ≡ is_marked sources.now number) }
+{
+    let found = same_slots(alloc, sources)?;
+    let images = numbered_images(alloc, &found)?;
+    Ok(images)
+}
+
+// The same as a map, while it grows.
+fn same_slots(alloc: Global, sources: &Sources<'_>) -> Result<BTreeMap<u32, u32>, AllocError>
     ensures { IfOk result (λ found. (number : ℕ) → is_some (get nat_cmp found number) ≡ is_marked sources.now number) }
 {
     let mut found = BTreeMap::new(alloc);
@@ -83,6 +92,17 @@ fn note_same(
     note(found, sources.is_same(i), page, i)
 }
 
+// The pages of a map but 0, which is the number of no page: in less than half the memory of the map.
+fn numbered_images(alloc: Global, found: &BTreeMap<u32, u32>) -> Result<FirstImages, AllocError>
+    ensures { IfOk result (λ images. (number : ℕ) → first_in images number ≡ (if not (number == 0) then get nat_cmp found.now number else None)) }
+{
+    let mut items = Vec::with_capacity(alloc, found.len())?;
+    for (page, first) in found.iter() {
+        push_if(&mut items, *page != 0, *page, *first)?;
+    }
+    Ok(FirstImages::new(items))
+}
+
 /// Of the pages of a map, those past the end of the file that can have a view. The cost is that of going over the map.
 pub fn past_images(
     alloc: Global,
@@ -93,26 +113,26 @@ pub fn past_images(
 {
     let lock = sources.lock_page();
     let count = sources.page_count();
-    let mut items = Vec::new(alloc);
+    let mut items = Vec::with_capacity(alloc, found.len())?;
     for (page, first) in found.iter() {
         push_if(&mut items, count < *page && *page != lock, *page, *first)?;
     }
     Ok(FirstImages::new(items))
 }
 
-/// Of the pages of a map, those that another has too. The cost is a look-up for each.
+/// Of the pages of a map, those that a list has too. The cost is a look-up for each.
 pub fn marked_images(
     alloc: Global,
     found: &BTreeMap<u32, u32>,
-    same: &BTreeMap<u32, u32>,
+    same: &FirstImages,
 ) -> Result<FirstImages, AllocError>
-    requires { get nat_cmp same.now 0 ≡ None }
+    requires { first_in same.now 0 ≡ None }
     ensures { IfOk result (λ images. (number : ℕ) → first_in images number
-        ≡ (if has_key (get nat_cmp same.now) number then get nat_cmp found.now number else None)) }
+        ≡ (if has_key (first_in same.now) number then get nat_cmp found.now number else None)) }
 {
-    let mut items = Vec::new(alloc);
+    let mut items = Vec::with_capacity(alloc, same.len())?;
     for (page, first) in found.iter() {
-        push_if(&mut items, same.contains_key(page), *page, *first)?;
+        push_if(&mut items, same.find(*page).is_some(), *page, *first)?;
     }
     Ok(FirstImages::new(items))
 }

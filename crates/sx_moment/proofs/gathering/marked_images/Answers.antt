@@ -1,6 +1,4 @@
 use Rattle.std.proofs.Common.{◌≡◌, [], sym, ap, ◌∙◌, subst, rules, is_some}
-use Rattle.std.specs.Ordering.{nat_cmp}
-use Rattle.std.specs.BTreeMap.{get}
 use Rattle.sx_moment.specs.Firsts.{Rises, first_in}
 use Rattle.sx_moment.specs.Parts.{has_key}
 use Rattle.sx_moment.proofs.Images.{images_all, images_rise, images_found}
@@ -8,14 +6,14 @@ use Rattle.sx_moment.proofs.gathering.marked_images.Goals as goal
 
 pub new-requires : goal.new-requires
 new-requires c =
-    let keeps = has_key (get nat_cmp c.args.same.now) in
+    let keeps = has_key (first_in c.args.same.now) in
     let left : c.loop-page.page-iterator ≡ [] = search rules in
     let all = images_all keeps c.loop-page.items.items c.loop-page.page-iterator c.args.found.now.entries c.loop-page.invariant left in
     subst (Rises 1) (sym all) (images_rise keeps c.args.found.now.entries (ap is_some c.requires) c.iter-page-items.ensures.ordered)
 
 pub returns : goal.returns
 returns c = λ number.
-    let keeps = has_key (get nat_cmp c.args.same.now) in
+    let keeps = has_key (first_in c.args.same.now) in
     let left : c.loop-page.page-iterator ≡ [] = search rules in
     let all = images_all keeps c.loop-page.items.items c.loop-page.page-iterator c.args.found.now.entries c.loop-page.invariant left in
     ap (λ l. first_in l number) (c.new.ensures ∙ all) ∙ images_found keeps c.args.found.now.entries number

@@ -1,14 +1,10 @@
-use Rattle.std.proofs.Common.{ap, ◌∙◌, ◌||◌, ◌&&◌}
-use Rattle.sx_moment.specs.Gathered.{page_count}
-use Rattle.sx_moment.specs.Views.{lock_in}
-use Rattle.sx_moment.specs.Marks.{is_same}
-use Rattle.sx_moment.specs.Parts.{is_in_file}
-use Rattle.sx_moment.proofs.Noted.{any_step}
+use Rattle.std.proofs.Common.{is_some, ap, ◌∙◌}
+use Rattle.std.specs.Ordering.{nat_cmp}
+use Rattle.std.specs.BTreeMap.{get}
+use Rattle.sx_moment.proofs.Noted.{marked_numbered}
 use Rattle.sx_moment.proofs.gathering.same_pages.Goals as goal
 
-pub loop-i-preserved : goal.loop-i-preserved
-loop-i-preserved c = λ number.
-    let file = is_in_file (lock_in c.args.sources.now) (page_count c.args.sources.now) number in
-    c.in_ok-note_same.ensures number
-    ∙ ap (λ b. b || (file && is_same c.args.sources.now number c.loop-i.i)) (c.loop-i.invariant number)
-    ∙ any_step (is_same c.args.sources.now number) c.loop-i.i file
+pub returns : goal.returns
+returns c = λ number.
+    ap is_some (c.in_ok-images.ensures number)
+    ∙ marked_numbered c.args.sources.now number (get nat_cmp c.in_ok-found.found number) (c.in_ok-found.ensures number)

@@ -6,7 +6,7 @@ use Rattle.sx_moment.specs.Views.{lock_in}
 use Rattle.sx_moment.specs.Marks.{is_same}
 use Rattle.sx_moment.specs.Parts.{is_in_file}
 use Rattle.sx_base.proofs.Places.{some_place}
-use Rattle.sx_moment.proofs.gathering.same_pages.Given as goal
+use Rattle.sx_moment.proofs.gathering.same_slots.Given as goal
 
 -- a page is marked where one of the slots so far is the same
 abbrev pub invariant-loop-i : goal.invariant-loop-i
