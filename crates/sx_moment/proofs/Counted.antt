@@ -10,7 +10,8 @@ use Rattle.sx_moment.specs.Views.{view_of, lock_in}
 use Rattle.sx_moment.specs.Gathered.{page_count}
 use Rattle.sx_moment.specs.Marks.{uncertain_pages}
 use Rattle.sx_moment.specs.Firsts.{Rises, first_in, below, is_taken, taken, IsSearchedAbove}
-use Rattle.sx_moment.specs.Parts.{IsGathered, first_slot, past_only, marked_only, is_past, is_bare, file_pages_at}
+use Rattle.sx_moment.specs.Reading.{IsGathered}
+use Rattle.sx_moment.specs.Images.{first_slot, past_only, marked_only, is_past, is_bare, file_pages_at}
 use Rattle.sx_moment.specs.Counts.{flag, AreFirst, AreCounts}
 use Rattle.sx_moment.specs.declared.first_image.FirstImage.{FirstImage}
 use Rattle.sx_moment.proofs.Listed.{first_in_at, taken_case}

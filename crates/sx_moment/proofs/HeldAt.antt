@@ -13,7 +13,7 @@ use Rattle.sx_chain.specs.Newest.{has_number}
 use Rattle.sx_moment.specs.Gathered.{Gathered, page_count, size_at, limit_at}
 use Rattle.sx_moment.specs.Views.{slot_pages, is_good_record, image_at, can_be_viewed, lock_in, file_page, origin_of, bytes_of, view_of}
 use Rattle.sx_moment.specs.Firsts.{Rises, first_in, taken, passes, file_pages, below}
-use Rattle.sx_moment.specs.Parts.{file_pages_at, is_past, past_only, first_at, first_slot, first_record, bound_at}
+use Rattle.sx_moment.specs.Images.{file_pages_at, is_past, past_only, first_at, first_slot, first_record, bound_at}
 use Rattle.sx_moment.specs.declared.first_image.FirstImage.{FirstImage}
 use Rattle.sx_moment.specs.declared.origin.Origin.{Origin}
 use Rattle.sx_moment.specs.declared.origin.Origin.TheVariants as origins

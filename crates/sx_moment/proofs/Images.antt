@@ -9,7 +9,7 @@ use Rattle.std.proofs.lemmas.Bool.{eqb-true, cases_lt}
 use Rattle.std.proofs.lemmas.Bool.Decides.{nat_tests}
 use Rattle.std.proofs.lemmas.Map.Keys.{sorted_head, sorted_tail}
 use Rattle.sx_moment.specs.Firsts.{Rises, first_in}
-use Rattle.sx_moment.specs.Parts.{images_of}
+use Rattle.sx_moment.specs.Gathering.{images_of}
 use Rattle.sx_moment.specs.declared.first_image.FirstImage.{FirstImage}
 
 -- a number that a page can have

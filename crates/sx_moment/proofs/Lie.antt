@@ -8,7 +8,8 @@ use Rattle.sx_base.specs.declared.evidence.Place.{Place}
 use Rattle.sx_base.specs.declared.moment.Moment.{Moment}
 use Rattle.sx_moment.specs.Gathered.{Gathered, page_count, size_at, is_moment}
 use Rattle.sx_moment.specs.Views.{image_at, can_be_viewed, lock_in, file_page, origin_of, place_of, part_bytes, bytes_from, bytes_of, IsWhole, view_of, source_of}
-use Rattle.sx_moment.specs.Parts.{IsGathered, Stands}
+use Rattle.sx_moment.specs.Reading.{IsGathered}
+use Rattle.sx_moment.specs.Images.{Stands}
 use Rattle.sx_moment.specs.declared.origin.Origin.{Origin}
 use Rattle.sx_moment.specs.declared.origin.Origin.TheVariants.{Database, Slot, Record}
 use Rattle.sx_moment.proofs.Moments.{image_stands, limit_within}

@@ -14,7 +14,8 @@ use Rattle.sx_chain.specs.Newest.{has_number}
 use Rattle.sx_base.proofs.Places.{last_place_passes}
 use Rattle.sx_moment.specs.Gathered.{Gathered, limit_at, is_live_state, is_moment, moments_of}
 use Rattle.sx_moment.specs.Views.{slot_pages, is_good_record, image_at}
-use Rattle.sx_moment.specs.Parts.{IsGathered, Stands, first_record}
+use Rattle.sx_moment.specs.Reading.{IsGathered}
+use Rattle.sx_moment.specs.Images.{Stands, first_record}
 use Rattle.sx_moment.specs.declared.origin.Origin.TheVariants as origins
 use Rattle.sx_base.proofs.Places.{is_below, first_within}
 

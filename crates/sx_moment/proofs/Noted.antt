@@ -11,7 +11,8 @@ use Rattle.sx_moment.specs.Views.{slot_pages, bytes_of}
 use Rattle.std.specs.Str.{bytes_eq}
 use Rattle.sx_moment.specs.Marks.{is_committed, is_same}
 use Rattle.sx_moment.specs.declared.origin.Origin.TheVariants.{Database, Slot}
-use Rattle.sx_moment.specs.Parts.{noted, is_in_file, is_marked}
+use Rattle.sx_moment.specs.Gathering.{noted}
+use Rattle.sx_moment.specs.Images.{is_in_file, is_marked}
 use Rattle.sx_base.proofs.Places.{or_first, first_place-more, some_place, some_place-more}
 
 -- the page number of a slot

@@ -11,7 +11,8 @@ use Rattle.sx_wal.specs.Frames.{frame_at}
 use Rattle.sx_wal.specs.declared.slot.Slot.{Slot}
 use Rattle.sx_journal.specs.Journal.{Journal, journal_of}
 use Rattle.sx_moment.specs.Gathered.{bytes_in, no_slot, no_record}
-use Rattle.sx_moment.specs.Parts.{IsGathered, IsSmall, gathered_by}
+use Rattle.sx_moment.specs.Reading.{IsGathered, gathered_by}
+use Rattle.sx_moment.specs.Limits.{IsSmall}
 
 -- what the reader of logs says of each slot
 abbrev FrameLaw : Type 0

@@ -18,7 +18,7 @@ use Rattle.sx_chain.specs.Newest.{has_number}
 use Rattle.sx_moment.specs.Gathered.{Gathered, slot_at, size_at, limit_at}
 use Rattle.sx_moment.specs.Views.{slot_pages, image_at, can_be_viewed, file_page, lock_in, origin_of}
 use Rattle.sx_moment.specs.Turns.{moment_before, slots_of, frame_pages, is_among, AreTurned}
-use Rattle.sx_moment.specs.Parts.{IsGathered}
+use Rattle.sx_moment.specs.Reading.{IsGathered}
 use Rattle.sx_moment.specs.declared.origin.Origin.TheVariants as origins
 use Rattle.sx_moment.proofs.Noted.{page_of_slot}
 

@@ -12,7 +12,7 @@ use Rattle.sx_moment.specs.Gathered.{Gathered, page_count, size_at, limit_at}
 use Rattle.sx_moment.specs.Views.{slot_pages, image_at, can_be_viewed, lock_in, file_page, origin_of}
 use Rattle.sx_moment.specs.Marks.{is_same, is_database, is_uncertain, uncertain_pages}
 use Rattle.sx_moment.specs.Firsts.{Rises, first_in, is_taken, taken, passes}
-use Rattle.sx_moment.specs.Parts.{first_at, bound_at, is_in_file, is_marked, marked_only, first_slot, has_no_image, is_bare}
+use Rattle.sx_moment.specs.Images.{first_at, bound_at, is_in_file, is_marked, marked_only, first_slot, has_no_image, is_bare}
 use Rattle.sx_moment.specs.declared.first_image.FirstImage.{FirstImage}
 use Rattle.sx_moment.specs.declared.origin.Origin.{Origin}
 use Rattle.sx_moment.specs.declared.origin.Origin.TheVariants as origins

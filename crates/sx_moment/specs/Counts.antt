@@ -3,7 +3,7 @@ use Rattle.std.specs.Prelude.{◌≡◌, ℕ, ◌-◌, ◌≤◌, Bool, true, fa
 use Rattle.sx_base.specs.declared.moment.Moment.TheVariants.{Commit}
 use Rattle.sx_moment.specs.Gathered.{Gathered, size_at, limit_at}
 use Rattle.sx_moment.specs.Firsts.{below, taken}
-use Rattle.sx_moment.specs.Parts.{first_slot}
+use Rattle.sx_moment.specs.Images.{first_slot}
 use Rattle.sx_moment.specs.declared.first_image.FirstImage.{FirstImage}
 
 -- 1 for what holds

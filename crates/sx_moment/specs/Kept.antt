@@ -3,7 +3,8 @@ use Rattle.std.specs.Prelude.{◌≡◌, ℕ, List, Option}
 use Rattle.sx_moment.specs.Gathered.{Gathered}
 use Rattle.sx_moment.specs.Views.{slot_pages}
 use Rattle.sx_moment.specs.Firsts.{Rises, first_in}
-use Rattle.sx_moment.specs.Parts.{IsGathered, first_slot, first_record, past_only, marked_only}
+use Rattle.sx_moment.specs.Reading.{IsGathered}
+use Rattle.sx_moment.specs.Images.{first_slot, first_record, past_only, marked_only}
 use Rattle.sx_moment.specs.Counts.{AreCounts}
 use Rattle.sx_moment.specs.declared.first_image.FirstImage.{FirstImage}
 

@@ -3,7 +3,10 @@ pub mod Views
 pub mod Marks
 pub mod Heads
 pub mod Firsts
-pub mod Parts
+pub mod Limits
+pub mod Reading
+pub mod Images
+pub mod Gathering
 pub mod Turns
 pub mod Counts
 pub mod Kept

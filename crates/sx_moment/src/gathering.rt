@@ -8,7 +8,8 @@ ghost use Rattle.sx_moment.specs.Gathered.{page_count};
 ghost use Rattle.sx_moment.specs.Views.{lock_in, slot_pages};
 ghost use Rattle.sx_moment.specs.Marks.{is_same};
 ghost use Rattle.sx_moment.specs.Firsts.{first_in};
-ghost use Rattle.sx_moment.specs.Parts.{first_slot, first_record, past_only, is_in_file, is_marked, noted, images_of, has_key};
+ghost use Rattle.sx_moment.specs.Images.{first_slot, first_record, past_only, is_in_file, is_marked};
+ghost use Rattle.sx_moment.specs.Gathering.{noted, images_of, has_key};
 
 use crate::first_image::FirstImage;
 use crate::first_images::FirstImages;

@@ -8,12 +8,15 @@ mod file_pages;
 mod first_image;
 mod first_images;
 mod gathering;
+mod heads;
+mod marks;
 mod newest_slot;
 mod origin;
 mod pages;
 mod snapshot;
 mod sources;
 mod turns;
+mod views;
 
 pub use case::Case;
 pub use evidence::Evidence;

@@ -2,7 +2,9 @@
 ghost use Rattle.std.specs.Prelude.{◌≡◌, ℕ, ◌+◌, ◌-◌, ◌*◌, ◌^◌, ◌<◌, ◌≤◌, ◌&&◌, IsTrue, Some, length, slice_index, option_copied, IfOk};
 ghost use Rattle.sx_moment.specs.Gathered.{gathered, bytes_in, slot_at, record_at, page_count, file_size, size_at, limit_at, commit_at, is_live_state, is_moment};
 ghost use Rattle.sx_moment.specs.Views.{lock_in, place_of, bytes_of, is_good_record, slot_pages};
-ghost use Rattle.sx_moment.specs.Parts.{IsGathered, IsSmall, is_in_file};
+ghost use Rattle.sx_moment.specs.Reading.{IsGathered};
+ghost use Rattle.sx_moment.specs.Limits.{IsSmall};
+ghost use Rattle.sx_moment.specs.Images.{is_in_file, bound_at};
 ghost use Rattle.sx_moment.specs.Marks.{is_committed, is_same};
 ghost use Rattle.sx_moment.specs.Turns.{moment_before};
 ghost use Rattle.sx_base.specs.declared.moment.Moment.TheVariants.{Commit};
@@ -31,7 +33,7 @@ pub struct Sources<'a> {
 impl<'a> Model for Sources<'a> {
     ghost use Rattle.std.specs.Prelude.{option_copied};
     ghost use Rattle.sx_moment.specs.Gathered.{Gathered};
-    ghost use Rattle.sx_moment.specs.Parts.{IsGathered, gathered_by};
+    ghost use Rattle.sx_moment.specs.Reading.{IsGathered, gathered_by};
 
     ghost Value = { Gathered };
 
@@ -201,6 +203,18 @@ impl<'a> Sources<'a> {
         match moment {
             Moment::Commit(k) => self.wal.commit(k) + 1,
             _ => 0,
+        }
+    }
+
+    /// How many of the images a moment may see: all records, or the slots up to it.
+    pub fn bound(&self, moment: Moment) -> u32
+        requires { IsTrue (is_moment self.now moment) }
+        ensures value { result ≡ bound_at self.now moment }
+        ensures seen { limit_at self.now moment ≤ length self.now.wal.slots }
+    {
+        match moment {
+            Moment::Journal => self.records(),
+            _ => self.limit(moment),
         }
     }
 

@@ -4,7 +4,7 @@ use Rattle.std.specs.Map.{lookup}
 use Rattle.sx_journal.specs.declared.entry.Entry.{Entry}
 use Rattle.sx_journal.specs.Entries.{is_good_class}
 use Rattle.sx_moment.specs.Views.{is_good_record}
-use Rattle.sx_moment.specs.Parts.{noted}
+use Rattle.sx_moment.specs.Gathering.{noted}
 use Rattle.sx_base.proofs.Places.{first_place-zero}
 use Rattle.sx_moment.proofs.Noted.{note_step}
 use Rattle.sx_moment.proofs.gathering.first_records.Goals as goal

@@ -5,7 +5,7 @@ use Rattle.sx_wal.specs.declared.slot.Slot.{Slot}
 use Rattle.sx_chain.specs.Newest.{has_number}
 use Rattle.sx_base.specs.Places.{first_place}
 use Rattle.sx_moment.specs.Views.{slot_pages}
-use Rattle.sx_moment.specs.Parts.{noted}
+use Rattle.sx_moment.specs.Gathering.{noted}
 use Rattle.sx_base.proofs.Places.{first_place-zero}
 use Rattle.sx_moment.proofs.Noted.{note_slot}
 use Rattle.sx_moment.proofs.gathering.first_slots.Goals as goal

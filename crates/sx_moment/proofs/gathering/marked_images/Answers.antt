@@ -1,6 +1,6 @@
 use Rattle.std.proofs.Common.{◌≡◌, [], sym, ap, ◌∙◌, subst, rules, is_some}
 use Rattle.sx_moment.specs.Firsts.{Rises, first_in}
-use Rattle.sx_moment.specs.Parts.{has_key}
+use Rattle.sx_moment.specs.Gathering.{has_key}
 use Rattle.sx_moment.proofs.Images.{images_all, images_rise, images_found}
 use Rattle.sx_moment.proofs.gathering.marked_images.Goals as goal
 

@@ -1,6 +1,6 @@
 use Rattle.std.proofs.Common.{◌≡◌, ◌++◌}
 use Rattle.sx_moment.specs.Firsts.{first_in}
-use Rattle.sx_moment.specs.Parts.{has_key, images_of}
+use Rattle.sx_moment.specs.Gathering.{has_key, images_of}
 use Rattle.sx_moment.proofs.gathering.marked_images.Given as goal
 
 -- what is kept of the entries so far, and of those to come

@@ -6,7 +6,8 @@ use Rattle.sx_moment.specs.Gathered.{page_count, slot_at}
 use Rattle.sx_moment.specs.Views.{lock_in}
 use Rattle.sx_wal.specs.declared.slot.Slot.{Slot}
 use Rattle.sx_moment.specs.Marks.{is_same}
-use Rattle.sx_moment.specs.Parts.{is_in_file, noted}
+use Rattle.sx_moment.specs.Images.{is_in_file}
+use Rattle.sx_moment.specs.Gathering.{noted}
 use Rattle.sx_moment.proofs.Noted.{marked_out, marked_known, marked_more}
 use Rattle.sx_moment.proofs.gathering.note_same.Goals as goal
 

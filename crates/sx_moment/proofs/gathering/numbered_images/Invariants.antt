@@ -1,5 +1,5 @@
 use Rattle.std.proofs.Common.{◌≡◌, ◌++◌}
-use Rattle.sx_moment.specs.Parts.{images_of}
+use Rattle.sx_moment.specs.Gathering.{images_of}
 use Rattle.sx_moment.proofs.Images.{is_numbered}
 use Rattle.sx_moment.proofs.gathering.numbered_images.Given as goal
 

@@ -1,5 +1,6 @@
 use Rattle.std.proofs.Common.{◌≡◌, ◌++◌}
-use Rattle.sx_moment.specs.Parts.{is_past, images_of}
+use Rattle.sx_moment.specs.Images.{is_past}
+use Rattle.sx_moment.specs.Gathering.{images_of}
 use Rattle.sx_moment.proofs.gathering.past_images.Given as goal
 
 -- what is kept of the entries so far, and of those to come

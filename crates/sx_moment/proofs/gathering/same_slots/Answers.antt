@@ -2,7 +2,7 @@ use Rattle.std.proofs.Common.{ap, ◌∙◌, ◌||◌, ◌&&◌}
 use Rattle.sx_moment.specs.Gathered.{page_count}
 use Rattle.sx_moment.specs.Views.{lock_in}
 use Rattle.sx_moment.specs.Marks.{is_same}
-use Rattle.sx_moment.specs.Parts.{is_in_file}
+use Rattle.sx_moment.specs.Images.{is_in_file}
 use Rattle.sx_moment.proofs.Noted.{any_step}
 use Rattle.sx_moment.proofs.gathering.same_slots.Goals as goal
 

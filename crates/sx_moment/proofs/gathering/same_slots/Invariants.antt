@@ -4,7 +4,7 @@ use Rattle.std.specs.BTreeMap.{get}
 use Rattle.sx_moment.specs.Gathered.{page_count}
 use Rattle.sx_moment.specs.Views.{lock_in}
 use Rattle.sx_moment.specs.Marks.{is_same}
-use Rattle.sx_moment.specs.Parts.{is_in_file}
+use Rattle.sx_moment.specs.Images.{is_in_file}
 use Rattle.sx_base.proofs.Places.{some_place}
 use Rattle.sx_moment.proofs.gathering.same_slots.Given as goal
 

@@ -4,7 +4,8 @@ use Rattle.std.specs.BTreeMap.{get}
 use Rattle.sx_moment.specs.Gathered.{page_count}
 use Rattle.sx_moment.specs.Views.{lock_in}
 use Rattle.sx_moment.specs.Firsts.{Rises}
-use Rattle.sx_moment.specs.Parts.{IsGathered, is_past, is_marked}
+use Rattle.sx_moment.specs.Reading.{IsGathered}
+use Rattle.sx_moment.specs.Images.{is_past, is_marked}
 use Rattle.sx_moment.proofs.Counted.{past_first, marks_first}
 use Rattle.sx_moment.proofs.case.Case.gather.Goals as goal
 

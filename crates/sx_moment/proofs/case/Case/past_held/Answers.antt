@@ -3,7 +3,8 @@ use Rattle.std.proofs.lemmas.List.{get_or_default}
 use Rattle.sx_base.specs.declared.moment.Moment.TheVariants.{Journal, Commit}
 use Rattle.sx_moment.specs.Gathered.{is_moment, size_at}
 use Rattle.sx_moment.specs.Firsts.{first_in}
-use Rattle.sx_moment.specs.Parts.{IsGathered, first_slot, first_record, past_only, file_pages_at}
+use Rattle.sx_moment.specs.Reading.{IsGathered}
+use Rattle.sx_moment.specs.Images.{first_slot, first_record, past_only, file_pages_at}
 use Rattle.sx_moment.specs.Counts.{AreCounts}
 use Rattle.sx_moment.proofs.HeldAt.{held_count}
 use Rattle.sx_moment.proofs.Counted.{held_commit, held_file, count_there}

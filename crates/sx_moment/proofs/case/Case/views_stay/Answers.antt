@@ -1,5 +1,5 @@
 use Rattle.std.proofs.Common.{subst}
-use Rattle.sx_moment.specs.Parts.{IsGathered}
+use Rattle.sx_moment.specs.Reading.{IsGathered}
 use Rattle.sx_moment.proofs.Turned.{stays}
 use Rattle.sx_moment.proofs.case.Case.views_stay.Goals as goal
 

@@ -1,6 +1,6 @@
 use Rattle.std.proofs.Common.{◌≡◌, ◌==◌, false, subst, arith}
 use Rattle.std.proofs.lemmas.Bool.Decides.{nat_tests}
-use Rattle.sx_moment.specs.Parts.{IsGathered}
+use Rattle.sx_moment.specs.Reading.{IsGathered}
 use Rattle.sx_moment.proofs.Turned.{order_case}
 use Rattle.sx_moment.proofs.sources.Sources.limit_before.Goals as goal
 

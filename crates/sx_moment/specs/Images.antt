@@ -1,52 +1,17 @@
--- What a case keeps beside the evidence, so that a question takes no search of it.
-use Rattle.std.specs.Prelude.{◌≡◌, ℕ, ◌+◌, ◌^◌, ◌<◌, ◌≤◌, ◌==◌, Bool, not, ◌&&◌, nat_lt, nat_le, min, if◌then◌else◌, slice_index, List, [], ◌∷◌, ◌++◌, length, Option, None, Some, is_some, is_none}
+-- The images that a case knows of each page: the first in the log, the first in the journal, and those that a moment sees.
+use Rattle.std.specs.Prelude.{ℕ, ◌<◌, ◌≤◌, ◌==◌, Bool, not, ◌&&◌, nat_lt, nat_le, min, if◌then◌else◌, List, length, Option, None, is_none}
 use Rattle.std.specs.List.{list_any, range_with_len}
-use Rattle.std.specs.List.Sorted.{IsStrictlyIncreasing}
-use Rattle.sx_chain.specs.Newest.{has_number}
+use Rattle.sx_base.specs.Places.{first_place}
 use Rattle.sx_base.specs.declared.moment.Moment.{Moment}
 use Rattle.sx_base.specs.declared.moment.Moment.TheVariants.{Journal as JournalMoment}
-use Rattle.sx_header.specs.Header.{HasRanges}
-use Rattle.sx_header.specs.declared.header.Header.{Header}
-use Rattle.sx_wal.specs.Wal.{Wal, wal_of}
-use Rattle.sx_journal.specs.Journal.{Journal, journal_of}
-use Rattle.sx_moment.specs.Gathered.{Gathered, bytes_in, slot_at, record_at, page_count, size_at, limit_at}
-use Rattle.sx_base.specs.Places.{first_place}
+use Rattle.sx_chain.specs.Newest.{has_number}
+use Rattle.sx_moment.specs.Gathered.{Gathered, page_count, size_at, limit_at}
 use Rattle.sx_moment.specs.Views.{slot_pages, is_good_record, lock_in, image_at}
 use Rattle.sx_moment.specs.Marks.{is_same}
 use Rattle.sx_moment.specs.Firsts.{file_pages}
 use Rattle.sx_moment.specs.declared.origin.Origin.{Origin}
 use Rattle.sx_moment.specs.declared.origin.Origin.TheVariants.{Database, Slot, Record}
 use Rattle.sx_moment.specs.declared.first_image.FirstImage.{FirstImage}
-
--- each file has fewer than 2^32 bytes
-pub record IsSmall (database : List ℕ) (wal journal : Option (List ℕ)) : Type 0 where
-  pub database_small : length database < 2 ^ 32
-  pub wal_small : length (bytes_in wal) < 2 ^ 32
-  pub journal_small : length (bytes_in journal) < 2 ^ 32
-
--- the evidence is what the bytes were read as: its numbers are in range, and each image lies in its file
-pub record IsGathered (case : Gathered) : Type 0 where
-  pub ranges : HasRanges case.header
-  pub slots : (i : ℕ) → i < length case.wal.slots → (slot_at case i).offset + case.header.page_size ≤ length (bytes_in case.wal_bytes)
-  pub records : (i : ℕ) → i < length case.journal.entries → (record_at case i).offset + case.header.page_size ≤ length (bytes_in case.journal_bytes)
-  pub small : IsSmall case.database case.wal_bytes case.journal_bytes
-  pub few_slots : length case.wal.slots < 2 ^ 31
-  pub few_commits : length case.wal.commits ≤ length case.wal.slots
-  pub commits : (k : ℕ) → k < length case.wal.commits → slice_index case.wal.commits k < length case.wal.slots
-  pub rising : IsStrictlyIncreasing case.wal.commits
-  pub wal_is : case.wal ≡ wal_of case.wal_bytes case.header.page_size
-  pub journal_is : case.journal ≡ journal_of case.journal_bytes case.header.page_size
-
--- the evidence of these files, read as these
-abbrev pub gathered_by : Header → List ℕ → Option (List ℕ) → Option (List ℕ) → Wal → Journal → Gathered
-gathered_by header database wal_bytes journal_bytes wal journal = record {
-  header = header;
-  database = database;
-  wal_bytes = wal_bytes;
-  journal_bytes = journal_bytes;
-  wal = wal;
-  journal = journal;
-}
 
 -- a page past the end of the file that can have a view
 abbrev pub is_past : ℕ → ℕ → ℕ → Bool
@@ -76,20 +41,6 @@ is_marked case number =
 -- the pages that some Committed slot equals, with the first slot of each
 abbrev pub marked_only : Gathered → ℕ → Option ℕ
 marked_only case number = if is_marked case number then first_slot case number else None
-
--- what stands for a page once image i of another was noted, where it counts
-abbrev pub noted : Bool → ℕ → ℕ → Option ℕ → ℕ → Option ℕ
-noted counts page i (Some first) number = Some first
-noted counts page i None number = if counts && (page == number) then Some i else None
-
--- of the entries of a map those whose key is kept, as pages with their first images
-abbrev pub images_of : (ℕ → Bool) → List (ℕ × ℕ) → List FirstImage
-images_of keeps [] = []
-images_of keeps (entry ∷ entries) = (if keeps entry.0 then (record { page = entry.0; first = entry.1 }) ∷ [] else []) ++ images_of keeps entries
-
--- the pages that have something in a map
-abbrev pub has_key : (ℕ → Option ℕ) → ℕ → Bool
-has_key known number = is_some (known number)
 
 -- the first image of a page at a moment: the first Good record, or the first slot
 abbrev pub first_at : Gathered → Moment → ℕ → Option ℕ
