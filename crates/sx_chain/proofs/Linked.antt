@@ -256,10 +256,10 @@ skewed_more numbers links fars number far previous long_links long_fars skewed b
 -- the far end that a node holds
 pub far_read : (nodes : List Node) (place : ℕ) (node : Node) → IsSkewed (numbers_of nodes) (links_of nodes) (fars_of nodes)
     → place < length (numbers_of nodes) → node ≡ get_or nodes place node
-    → IsFar (numbers_of nodes) (slice_index (numbers_of nodes) place) node.previous place node.far
+    → IsFar (numbers_of nodes) (slice_index (numbers_of nodes) place) (place_below node.end) place node.far
 far_read nodes place node skewed within is =
     let below : place < length nodes = omega (arith, length-map nodes (λ n. n.number)) in
-    let link : slice_index_or (links_of nodes) place None ≡ node.previous = get_or-map (λ n. n.previous) nodes place node None below ∙ ap (λ n. n.previous) (sym is) in
+    let link : slice_index_or (links_of nodes) place None ≡ (place_below node.end) = get_or-map (λ n. place_below n.end) nodes place node None below ∙ ap (λ n. place_below n.end) (sym is) in
     let far : slice_index (fars_of nodes) place ≡ node.far = get_or-map (λ n. n.far) nodes place node 0 below ∙ ap (λ n. n.far) (sym is) in
     let known = skewed place within in
     rw (link, far) at known
@@ -274,11 +274,11 @@ pub far_back : (nodes : List Node) (place : ℕ) (node : Node) → IsSkewed (num
     → place < length (numbers_of nodes) → node ≡ get_or nodes place node
     → (node.far ≤ place) × (slice_index (numbers_of nodes) node.far ≡ slice_index (numbers_of nodes) place)
 far_back nodes place node skewed within is =
-    back_case (numbers_of nodes) (slice_index (numbers_of nodes) place) place node.far node.previous refl (far_read nodes place node skewed within is)
+    back_case (numbers_of nodes) (slice_index (numbers_of nodes) place) place node.far (place_below node.end) refl (far_read nodes place node skewed within is)
 
 -- a node that isn't there
 abbrev pub no_node : Node
-no_node = record { number = 0; previous = None; far = 0; span = 0 }
+no_node = record { number = 0; end = 0; far = 0; span = 0 }
 
 -- the same of a place that is read
 pub far_at : (nodes : List Node) (place : ℕ) (d : Node) → IsSkewed (numbers_of nodes) (links_of nodes) (fars_of nodes) → place < length nodes
@@ -336,7 +336,7 @@ ranks_apart xs i j rising low high differ same =
       | inr behind ↦ let less = rise_far xs j i rising (omega arith) low in absurd (omega arith)
     ]
 
-below_end : (n : ℕ) → place_below (n + 1) ≡ Some n
+pub below_end : (n : ℕ) → place_below (n + 1) ≡ Some n
 below_end n =
     let some : (n + 1 == 0) ≡ false = grind (arith, nat_tests) in
     let at : n + 1 - 1 ≡ n = omega arith in
@@ -442,27 +442,27 @@ built_none all nodes distinct ends none zeros =
 pub built_more : (all : List ℕ) (done : ℕ) (nodes now : List Node) (node : Node) (distinct ends after : List ℕ) (rank : ℕ)
     → length all < 2 ^ 32 → done < length all → IsStrictlyIncreasing distinct → IsBuilt all done nodes distinct ends
     → rank < length distinct → slice_index distinct rank ≡ get_or all done 0
-    → now ≡ nodes ++ node ∷ [] → node.number ≡ get_or all done 0 → node.previous ≡ place_below (slice_index ends rank)
-    → IsFar (numbers_of nodes) (get_or all done 0) node.previous done node.far
+    → now ≡ nodes ++ node ∷ [] → node.number ≡ get_or all done 0 → (place_below node.end) ≡ place_below (slice_index ends rank)
+    → IsFar (numbers_of nodes) (get_or all done 0) (place_below node.end) done node.far
     → after ≡ slice_set ends rank (done + 1)
     → IsBuilt all (done + 1) now distinct after
 built_more all done nodes now node distinct ends after rank few within rising built there here is number previous far put =
     let long : length (numbers_of nodes) ≡ done = ap length built.copied ∙ length-take-le done all (omega arith) in
     let numbers : numbers_of now ≡ numbers_of nodes ++ get_or all done 0 ∷ []
     = ap numbers_of is ∙ map-append (λ n. n.number) nodes (node ∷ []) ∙ ap (λ n. numbers_of nodes ++ n ∷ []) number in
-    let links : links_of now ≡ links_of nodes ++ node.previous ∷ []
-    = ap links_of is ∙ map-append (λ n. n.previous) nodes (node ∷ []) in
+    let links : links_of now ≡ links_of nodes ++ (place_below node.end) ∷ []
+    = ap links_of is ∙ map-append (λ n. place_below n.end) nodes (node ∷ []) in
     let fars : fars_of now ≡ fars_of nodes ++ node.far ∷ []
     = ap fars_of is ∙ map-append (λ n. n.far) nodes (node ∷ []) in
     let long_fars : length (fars_of nodes) ≡ length (numbers_of nodes) = length-map nodes (λ n. n.far) ∙ sym (length-map nodes (λ n. n.number)) in
-    let far_now : IsFar (numbers_of nodes) (get_or all done 0) node.previous (length (numbers_of nodes)) node.far = rw long far in
-    let newest : node.previous ≡ last_place (has_number (numbers_of nodes) (get_or all done 0)) (length (numbers_of nodes))
+    let far_now : IsFar (numbers_of nodes) (get_or all done 0) (place_below node.end) (length (numbers_of nodes)) node.far = rw long far in
+    let newest : (place_below node.end) ≡ last_place (has_number (numbers_of nodes) (get_or all done 0)) (length (numbers_of nodes))
     = previous ∙ built.heads.newest rank there ∙ ap (λ n. last_place (has_number (numbers_of nodes) n) (length (numbers_of nodes))) here in
     let newer = heads_newer (numbers_of nodes) distinct ends (get_or all done 0) rank rising built.heads there here in
     record {
       copied = numbers ∙ ap (λ front. front ++ get_or all done 0 ∷ []) built.copied ∙ sym (take_more all done 0 within);
-      chained = rw (numbers, links) (chained_more (numbers_of nodes) (links_of nodes) (get_or all done 0) node.previous built.chained (omega arith) newest);
-      skewed = rw (numbers, links, fars) (skewed_more (numbers_of nodes) (links_of nodes) (fars_of nodes) (get_or all done 0) node.far node.previous
+      chained = rw (numbers, links) (chained_more (numbers_of nodes) (links_of nodes) (get_or all done 0) (place_below node.end) built.chained (omega arith) newest);
+      skewed = rw (numbers, links, fars) (skewed_more (numbers_of nodes) (links_of nodes) (fars_of nodes) (get_or all done 0) node.far (place_below node.end)
           built.chained.long long_fars built.skewed far_now);
       heads = rw (numbers, put) (subst (λ n. AreHeads (numbers_of nodes ++ get_or all done 0 ∷ []) distinct (slice_set ends rank (n + 1))) long newer);
     }
@@ -470,8 +470,8 @@ built_more all done nodes now node distinct ends after rank few within rising bu
 -- the link that a node holds
 pub link_read : (nodes : List Node) (place : ℕ) (node : Node)
     → IsChained (numbers_of nodes) (links_of nodes) → place < length (numbers_of nodes) → node ≡ get_or nodes place node
-    → node.previous ≡ last_place (has_number (numbers_of nodes) (slice_index (numbers_of nodes) place)) place
+    → (place_below node.end) ≡ last_place (has_number (numbers_of nodes) (slice_index (numbers_of nodes) place)) place
 link_read nodes place node chained within is =
-    ap (λ n. n.previous) is
-    ∙ sym (get_or-map (λ n. n.previous) nodes place node None (omega (arith, length-map nodes (λ n. n.number))))
+    ap (λ n. place_below n.end) is
+    ∙ sym (get_or-map (λ n. place_below n.end) nodes place node None (omega (arith, length-map nodes (λ n. n.number))))
     ∙ chained.linked place within

@@ -1,3 +1,3 @@
-pub mod Links
 pub mod Newest
 pub mod Heads
+pub mod Links

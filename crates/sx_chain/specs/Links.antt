@@ -3,14 +3,15 @@ use Rattle.std.specs.Prelude.{◌≡◌, ℕ, ◌^◌, ◌<◌, nat_le, if◌the
 use Rattle.sx_chain.specs.declared.node.Node.{Node}
 use Rattle.sx_base.specs.Places.{last_place}
 use Rattle.sx_chain.specs.Newest.{has_number}
+use Rattle.sx_chain.specs.Heads.{place_below}
 
 -- the numbers of the nodes
 abbrev pub numbers_of : List Node → List ℕ
 numbers_of nodes = map (λ node. node.number) nodes
 
--- the links of the nodes
+-- the links of the nodes: each keeps the end that the item before it closes
 abbrev pub links_of : List Node → List (Option ℕ)
-links_of nodes = map (λ node. node.previous) nodes
+links_of nodes = map (λ node. place_below node.end) nodes
 
 -- the far ends of the links
 abbrev pub fars_of : List Node → List ℕ

@@ -2,6 +2,7 @@
 ghost use Rattle.std.specs.Prelude.{◌≡◌, ℕ, ◌+◌, ◌^◌, ◌<◌, ◌≤◌, ◌==◌, List, length, min, count_by, IfOk, IfSome, slice_index};
 ghost use Rattle.sx_base.specs.Places.{last_place};
 ghost use Rattle.sx_chain.specs.Newest.{has_number};
+ghost use Rattle.sx_chain.specs.Heads.{place_below};
 ghost use Rattle.sx_chain.specs.Links.{numbers_of, links_of, fars_of, IsFar, IsSkewed};
 
 use crate::heads::{distinct, head_at, known_rank, put_end, rank_of};
@@ -68,7 +69,7 @@ fn linked(nodes: &[Node], number: u32, previous: Option<u32>, own: u32) -> Node
     requires before { IfSome previous (λ before. (before < length nodes.now) × (slice_index (numbers_of nodes.now) before ≡ number)) }
     requires skewed { IsSkewed (numbers_of nodes.now) (links_of nodes.now) (fars_of nodes.now) }
     ensures number { result.number ≡ number }
-    ensures previous { result.previous ≡ previous }
+    ensures previous { place_below result.end ≡ previous }
     ensures far { IsFar (numbers_of nodes.now) number previous own result.far }
 {
     let Some(before) = previous else {

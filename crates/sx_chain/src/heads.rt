@@ -3,6 +3,7 @@ ghost use Rattle.std.specs.Prelude.{◌≡◌, ℕ, ◌+◌, ◌<◌, Contains, 
 ghost use Rattle.std.specs.List.Sorted.{IsStrictlyIncreasing};
 ghost use Rattle.sx_chain.specs.Heads.{AreDistinct, place_below};
 
+use crate::node::place_below;
 use std::alloc::{AllocError, Global};
 
 /// The numbers of a list, each once, in rising order. The cost is that of a sort.
@@ -45,8 +46,7 @@ pub fn head_at(ends: &[u32], rank: usize) -> Option<u32>
     requires { rank < length ends.now }
     ensures { result ≡ place_below (slice_index ends.now rank) }
 {
-    let end = ends[rank];
-    if end == 0 { None } else { Some(end - 1) }
+    place_below(ends[rank])
 }
 
 /// Puts the end of the number of a rank.

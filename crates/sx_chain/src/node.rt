@@ -1,5 +1,6 @@
 //! An item of the list, with its link.
-ghost use Rattle.std.specs.Prelude.{◌≡◌, ◌+◌, ◌-◌, ◌^◌, ◌<◌};
+ghost use Rattle.std.specs.Prelude.{◌≡◌, ◌+◌, ◌-◌, ◌^◌, ◌<◌, IfSome};
+ghost use Rattle.sx_chain.specs.Heads.{place_below};
 ghost use Rattle.sx_chain.specs.Links.{followed};
 
 use std::sync::ledger::Ledger;
@@ -12,7 +13,8 @@ use sx_base::Steps;
 #[derive(Clone, Copy)]
 pub struct Node {
     pub number: u32,
-    previous: Option<u32>,
+    /// One past the item before, and 0 where this one is the first of its number: half of what an option takes.
+    end: u32,
     /// The far item, and the place of this one where it is the first of its number.
     pub far: u32,
     /// How many items the far end goes back.
@@ -21,11 +23,16 @@ pub struct Node {
 
 impl Node {
     pub fn new(number: u32, previous: Option<u32>, far: u32, span: u32) -> Self
-        ensures { result ≡ record { number = number; previous = previous; far = far; span = span } }
+        requires { IfSome previous (λ place. place < 2 ^ 32 - 1) }
+        ensures number { result.number ≡ number }
+        ensures previous { place_below result.end ≡ previous }
+        ensures far { result.far ≡ far }
+        ensures span { result.span ≡ span }
     {
+        let end = end_of(previous);
         Node {
             number,
-            previous,
+            end,
             far,
             span,
         }
@@ -35,13 +42,32 @@ impl Node {
     /// is the one way to it, and it is one step.
     pub fn follow<L: Ledger>(&self, before: u32, steps: &mut Steps<L>) -> Option<u32>
         requires { steps.old < 2 ^ 64 - 1 }
-        ensures link { result ≡ followed self.now.previous self.now.far before }
+        ensures link { result ≡ followed (place_below self.now.end) self.now.far before }
         ensures counted { steps.new ≡ steps.old + 1 }
     {
         steps.tick();
-        match self.previous {
+        match place_below(self.end) {
             Some(place) => Some(if before <= self.far { self.far } else { place }),
             None => None,
         }
+    }
+}
+
+/// The place right below an end, if there is one.
+pub fn place_below(end: u32) -> Option<u32>
+    ensures { result ≡ place_below end }
+{
+    if end == 0 { None } else { Some(end - 1) }
+}
+
+// One past a place, and 0 where there is none.
+#[tactic(auto, using(crate::proofs::Linked::below_end))]
+fn end_of(place: Option<u32>) -> u32
+    requires { IfSome place (λ place. place < 2 ^ 32 - 1) }
+    ensures { place_below result ≡ place }
+{
+    match place {
+        Some(place) => place + 1,
+        None => 0,
     }
 }

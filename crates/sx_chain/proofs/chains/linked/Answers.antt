@@ -13,4 +13,4 @@ returns-then-near-further-clause-far c =
     let before = rw c.in-Some.is at c.requires.before in
     let further = far_twice c.args.nodes.now c.in-Some.before no_node no_node c.requires.skewed before.0 in
     let own = c.requires.own in
-    rw (c.new-then-near-further.ensures, c.in-Some.is) (omega (arith, further.0, before.0, own), further.1 ∙ before.1)
+    rw (c.new-then-near-further.ensures.far, c.in-Some.is) (omega (arith, further.0, before.0, own), further.1 ∙ before.1)
