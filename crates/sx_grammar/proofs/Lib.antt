@@ -10,3 +10,4 @@ pub mod ColumnLemmas
 pub mod ZeroLemmas
 pub mod ChosenLemmas
 pub mod StartLemmas
+pub mod LookLemmas

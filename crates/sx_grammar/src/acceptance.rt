@@ -5,8 +5,8 @@ ghost use Rattle.sx_grammar.specs.Freed.{IsFreed};
 ghost use Rattle.sx_grammar.specs.Choice.{Rises, setting_of, accepted_at};
 
 use crate::choice::clipped_in;
-use crate::clip::{Setting, cut_in};
-use crate::full::full_at;
+use crate::clip::{Setting, cut_in, is_no_cut};
+use crate::full::{full_at, is_no_cell};
 use crate::reading::Reading;
 use crate::shape::ShapeKey;
 use sx_bytes::be16;
@@ -22,6 +22,7 @@ pub struct Ctx<'s> {
 
 /// The candidate that begins at place `at` of a run: the first form, in the order of [`Form`], whose span begins there and
 /// lies in the run. A freed cell that begins there is always one.
+#[inline]
 pub fn accept<'a>(
     run: &'a [u8],
     at: u32,
@@ -41,9 +42,37 @@ pub fn accept<'a>(
     accept_first(run.split_at(at as usize).1, page_offset, block, ctx)
 }
 
-/// The first form whose span begins these bytes.
-#[tactic(auto, using(crate::proofs::ChoiceLemmas::accepted_full, crate::proofs::ChoiceLemmas::accepted_none, crate::proofs::ChoiceLemmas::accepted_cut))]
+/// The first form whose span begins these bytes: most are ruled out by a look at the first four.
+#[inline(always)]
+#[tactic(auto, using(crate::proofs::LookLemmas::looked_at))]
 fn accept_first<'a>(
+    bytes: &'a [u8],
+    page_offset: u32,
+    block: bool,
+    ctx: &Ctx<'_>,
+) -> Option<Reading<'a>>
+    requires small { length bytes.now ≤ 65536 }
+    requires place { page_offset ≤ 65535 }
+    requires least { 480 ≤ ctx.now.usable }
+    requires greatest { ctx.now.usable ≤ 65536 }
+    requires rise { Rises 1 ctx.now.shapes.now }
+    ensures { Finds (λ reading. reading) result (accepted_at ctx.now.usable ctx.now.shapes.now (setting_of page_offset block ctx.now.usable) bytes.now) }
+{
+    let setting = Setting {
+        offset: page_offset,
+        block,
+        longest: ctx.usable - 35,
+    };
+    if is_no_cell(bytes) && is_no_cut(setting, bytes) {
+        return None;
+    }
+    read_first(bytes, page_offset, block, ctx)
+}
+
+/// The same without a look at the first bytes.
+#[inline(never)]
+#[tactic(auto, using(crate::proofs::ChoiceLemmas::accepted_full, crate::proofs::ChoiceLemmas::accepted_none, crate::proofs::ChoiceLemmas::accepted_cut))]
+fn read_first<'a>(
     bytes: &'a [u8],
     page_offset: u32,
     block: bool,

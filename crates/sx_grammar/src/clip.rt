@@ -1,5 +1,5 @@
 //! Cells whose first four bytes were overwritten.
-ghost use Rattle.std.specs.Prelude.{◌≡◌, take, ◌+◌, ◌-◌, ◌*◌, ◌^◌, ◌<◌, ◌≤◌, length, IfSome};
+ghost use Rattle.std.specs.Prelude.{◌≡◌, take, ◌+◌, ◌-◌, ◌*◌, ◌^◌, ◌<◌, ◌≤◌, length, is_none, IfSome};
 ghost use Rattle.sx_grammar.specs.Shorts.{Finds, AreCounted};
 ghost use Rattle.sx_grammar.specs.Records.{Opened};
 ghost use Rattle.sx_grammar.specs.Clips.{may_begin, cut_in, rowid_len_in, ends_rowid, is_placed, tail_made, tail_in, goes_on, has_short_header};
@@ -21,6 +21,7 @@ pub struct Setting {
 }
 
 /// Whether four bytes with these numbers may begin a span.
+#[inline(always)]
 #[tactic(auto, unfolding(crate::specs::Clips::may_begin))]
 fn may_begin(setting: Setting, len: usize, next: u32, size: u32) -> bool
     requires place { setting.offset ≤ 65535 }
@@ -30,6 +31,22 @@ fn may_begin(setting: Setting, len: usize, next: u32, size: u32) -> bool
     size >= 4
         && (next == 0 || next >= setting.offset + size)
         && (setting.block || size as usize <= len)
+}
+
+/// Whether the first four bytes can't be those of a freeblock.
+#[inline(always)]
+#[tactic(auto, unfolding(crate::specs::Clips::cut_in))]
+pub fn is_no_cut(setting: Setting, bytes: &[u8]) -> bool
+    requires place { setting.offset ≤ 65535 }
+    ensures { result ≡ is_none (cut_in (record { offset = setting.offset; block = setting.block; longest = setting.longest }) bytes.now) }
+{
+    if bytes.len() < 4 {
+        return true;
+    }
+    let (four, _) = bytes.split_at(4);
+    let next = u32::from(be16(four, 0));
+    let size = u32::from(be16(four, 2));
+    !may_begin(setting, bytes.len(), next, size)
 }
 
 /// What may stand behind the four bytes of a span.

@@ -1,7 +1,7 @@
 //! A cell of a table leaf that still stands whole.
 ghost use Rattle.std.specs.Prelude.{◌≡◌, ◌^◌, ◌<◌, ◌≤◌, length, IfSome};
 ghost use Rattle.sx_grammar.specs.Shorts.{Finds};
-ghost use Rattle.sx_grammar.specs.Full.{link_field, held_in, held_at, full_at};
+ghost use Rattle.sx_grammar.specs.Full.{link_field, held_in, held_at, full_at, body_of_byte, is_no_header, is_no_cell};
 
 use crate::form::Form;
 use crate::opened::open_record;
@@ -9,6 +9,7 @@ use crate::reading::Reading;
 use crate::shorts::short_field;
 use sx_bytes::be32;
 use sx_cell::{Kind, local_len};
+use sx_record::body_len;
 
 /// The longest payload that a cell may have.
 const LONGEST_PAYLOAD: u64 = 2147483647;
@@ -19,6 +20,53 @@ struct Held<'a> {
     local: &'a [u8],
     overflow: Option<u32>,
     rest: &'a [u8],
+}
+
+/// Whether a look at the first bytes shows that no whole cell begins there.
+///
+/// Where the payload's length and the rowid have one byte each, as in runs of text, the header's size and the first two
+/// types tell it.
+#[inline(always)]
+pub fn is_no_cell(bytes: &[u8]) -> bool
+    ensures { result ≡ is_no_cell bytes.now }
+{
+    bytes.len() > 4
+        && bytes[0] < 0x80
+        && bytes[1] < 0x80
+        && is_no_header(
+            u64::from(bytes[0]),
+            u64::from(bytes[2]),
+            u64::from(bytes[3]),
+            u64::from(bytes[4]),
+        )
+}
+
+/// Whether a header of such a size with such types has no place in a payload of so many bytes.
+#[inline(always)]
+fn is_no_header(payload: u64, header: u64, first: u64, second: u64) -> bool
+    requires header { header < 2 ^ 8 }
+    ensures { result ≡ is_no_header payload header first second }
+{
+    header < 2
+        || payload < header
+        || payload < header + body_of_byte(first)
+        || (first < 0x80
+            && header >= 3
+            && payload < header + body_of_byte(first) + body_of_byte(second))
+}
+
+/// The length of the body of a type of one byte; a longer one isn't looked at.
+#[inline(always)]
+#[tactic(auto, using(crate::proofs::LookLemmas::byte_body))]
+fn body_of_byte(serial_type: u64) -> u64
+    ensures value { result ≡ body_of_byte serial_type }
+    ensures small { result < 128 }
+{
+    if serial_type < 0x80 {
+        body_len(serial_type)
+    } else {
+        0
+    }
 }
 
 /// The whole cell at the front of these bytes, on pages with so many usable ones.

@@ -3,8 +3,7 @@ ghost use Rattle.std.specs.Prelude.{◌≡◌, ◌^◌, ◌+◌, ◌-◌, ◌<�
 ghost use Rattle.sx_grammar.specs.Shorts.{Finds, used_types, AreCounted};
 ghost use Rattle.sx_grammar.specs.Records.{header_parts, record_in};
 
-use crate::shorts::count_types;
-use sx_bytes::short_varint;
+use crate::shorts::{count_types, short_varint};
 
 /// The header of a record, and what of its bodies is there.
 #[derive(Clone, Copy)]

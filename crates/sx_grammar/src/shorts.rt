@@ -1,9 +1,24 @@
 //! Numbers and serial types in their shortest spellings.
 ghost use Rattle.std.specs.Prelude.{◌≡◌, ◌^◌, ◌<◌, ◌≤◌, length, IfSome};
+ghost use Rattle.sx_bytes.specs.Varints.{short_at};
 ghost use Rattle.sx_grammar.specs.Shorts.{Finds, short_field, used_types, leaves, lowered, AreCounted};
 
-use sx_bytes::short_varint;
 use sx_record::{body_len, is_unused};
+
+/// The number at the front of `bytes` in its shortest spelling, and how many bytes that has: one of one byte is read without a
+/// call.
+#[inline(always)]
+#[tactic(auto, using(crate::proofs::ShortLemmas::byte_at_front))]
+pub fn short_varint(bytes: &[u8]) -> Option<(u64, usize)>
+    ensures value { result ≡ short_at bytes.now }
+    ensures some { IfSome result (λ found. 0 < found.1) }
+    ensures within { IfSome result (λ found. found.1 ≤ length bytes.now) }
+{
+    match bytes {
+        [byte, ..] if *byte < 0x80 => Some((u64::from(*byte), 1)),
+        _ => sx_bytes::short_varint(bytes),
+    }
+}
 
 /// A number in its shortest spelling and the bytes behind it.
 #[tactic(auto, unfolding(crate::specs::Shorts::short_field))]

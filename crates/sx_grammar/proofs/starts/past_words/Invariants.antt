@@ -1,5 +1,5 @@
 use Rattle.std.proofs.Common.{◌≡◌, ℕ, ◌-◌, ◌<◌, ◌≤◌, length, slice_index}
-use Rattle.sx_grammar.proofs.starts.next_start.Given as goal
+use Rattle.sx_grammar.proofs.starts.past_words.Given as goal
 
 abbrev pub invariant-loop-end : goal.invariant-loop-end
 invariant-loop-end l = record {
