@@ -1,0 +1,4 @@
+pub mod Trails
+pub mod HeldNumbers
+pub mod Whole
+pub mod Joined

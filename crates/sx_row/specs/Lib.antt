@@ -1,0 +1,4 @@
+pub mod Marks
+pub mod Lengths
+pub mod Rows
+pub mod Given

@@ -1,0 +1,4 @@
+pub mod Words
+pub mod Roots
+pub mod Tables
+pub mod Gathered
