@@ -8,3 +8,4 @@ pub mod Claiming
 pub mod KeyLabels
 pub mod Chains
 pub mod Standings
+pub mod Stretching

@@ -4,3 +4,5 @@ pub mod Runs
 pub mod Kept
 pub mod Keys
 pub mod Filling
+pub mod Stretches
+pub mod Walking

@@ -8,10 +8,15 @@ mod laws;
 mod map;
 mod page;
 mod runs;
+mod stretch;
 
 pub use key::{PageKey, Standing, page_key};
 pub use keyed::keyed_map;
-pub use laws::{places_by_chains, runs_by_rules};
+pub use laws::{places_by_chains, runs_by_rules, stretches_by_rules};
 pub use map::{PageMap, Totals};
 pub use page::page_map;
 pub use runs::Runs;
+pub use stretch::{Stretch, Stretches};
+
+#[cfg(test)]
+mod tests;
