@@ -9,3 +9,4 @@ pub mod KeyLabels
 pub mod Chains
 pub mod Standings
 pub mod Stretching
+pub mod Sums
