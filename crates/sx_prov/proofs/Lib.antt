@@ -10,3 +10,4 @@ pub mod Chains
 pub mod Standings
 pub mod Stretching
 pub mod Sums
+pub mod Items

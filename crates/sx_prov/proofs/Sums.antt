@@ -59,11 +59,11 @@ constant_count group label from (suc len) =
     let once : 1 * cond (group label) 1 0 ≡ cond (group label) 1 0 = one-mul (cond (group label) 1 0) in
     omega (arith, more, rest, times, once)
 
-not_lock : (a b : Bool) → (a || b) ≡ false → a ≡ false
+pub not_lock : (a b : Bool) → (a || b) ≡ false → a ≡ false
 not_lock true b none = absurd (false≢true (sym none))
 not_lock false b none = refl
 
-not_held : (a : Bool) (view : Option (List ℕ)) → (a || is_some view) ≡ false → view ≡ None
+pub not_held : (a : Bool) (view : Option (List ℕ)) → (a || is_some view) ≡ false → view ≡ None
 not_held true view none = absurd (false≢true (sym none))
 not_held false None none = refl
 not_held false (Some bytes) none = absurd (false≢true (sym none))

@@ -7,3 +7,4 @@ pub mod Filling
 pub mod Stretches
 pub mod Walking
 pub mod Sums
+pub mod Items
