@@ -9,3 +9,5 @@ pub mod KeyLabels
 pub mod Chains
 pub mod Standings
 pub mod Stretching
+pub mod Sums
+pub mod Items

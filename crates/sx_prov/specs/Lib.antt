@@ -6,3 +6,5 @@ pub mod Keys
 pub mod Filling
 pub mod Stretches
 pub mod Walking
+pub mod Sums
+pub mod Items

@@ -1,5 +1,7 @@
 //! The labels of pages of small databases, by the public calls over pages in a list.
-use crate::{PageKey, PageMap, Standing, Totals, keyed_map, page_key, page_map};
+use crate::{
+    PageKey, PageMap, Standing, Stretch, Stretches, Totals, keyed_map, page_key, page_map,
+};
 use std::alloc::Global;
 use std::process::Abort;
 use std::test::Fail;
@@ -213,4 +215,22 @@ fn a_key_says_the_labels(rt: HostRuntime) -> Result<(), Fail> {
         }
     );
     Ok(())
+}
+
+#[test]
+fn absent_pages_stand_between_present_ones(rt: HostRuntime) {
+    let head = first(&rt);
+    let sheets: [&[u8]; 6] = [b"", &head, b"", b"", &head, b""];
+    let pages = Sheets::new(512, &sheets);
+    let mut stretches = Stretches::start(&pages, &layout(512, 6, false, 0));
+    for want in [
+        Stretch::Absent { first: 1, last: 1 },
+        Stretch::Present(2),
+        Stretch::Absent { first: 3, last: 4 },
+        Stretch::Present(5),
+        Stretch::Absent { first: 6, last: 6 },
+    ] {
+        assert_eq!(rt; stretches.next(), Some(want));
+    }
+    assert_eq!(rt; stretches.next(), None);
 }
