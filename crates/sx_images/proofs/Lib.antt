@@ -1,0 +1,6 @@
+pub mod Things
+pub mod Files
+pub mod Journals
+pub mod Lists
+pub mod Made
+pub mod Imaged

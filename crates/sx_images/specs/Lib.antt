@@ -1,0 +1,4 @@
+pub mod Images
+pub mod Places
+pub mod Read
+pub mod Search
