@@ -1,0 +1,13 @@
+pub mod Same
+pub mod Maximal
+pub mod Kept
+pub mod Groups
+pub mod Filling
+pub mod Searching
+pub mod Claiming
+pub mod KeyLabels
+pub mod Chains
+pub mod Standings
+pub mod Stretching
+pub mod Sums
+pub mod Items

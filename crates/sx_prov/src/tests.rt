@@ -1,0 +1,238 @@
+//! The labels of pages of small databases, by the public calls over pages in a list.
+use crate::{
+    PageKey, PageMap, Standing, Stretch, Stretches, Totals, keyed_map, page_key, page_map,
+};
+use std::alloc::Global;
+use std::process::Abort;
+use std::test::Fail;
+use sx_base::{Label, Layout, Sheets, Span};
+use sx_refs::references;
+
+/// A page of zeros but for these bytes from `at` on.
+fn page_with(rt: &impl Abort, at: usize, bytes: &[u8]) -> [u8; 512] {
+    let mut page = [0; 512];
+    put(rt, &mut page, at, bytes);
+    page
+}
+
+fn put(rt: &impl Abort, page: &mut [u8; 512], at: usize, bytes: &[u8]) {
+    assert!(rt; at <= page.len() && bytes.len() <= page.len() - at);
+    page[at..at + bytes.len()].copy_from_slice(bytes);
+}
+
+/// Page 1 with no row in the schema.
+fn first(rt: &impl Abort) -> [u8; 512] {
+    page_with(rt, 100, b"\x0d")
+}
+
+/// A leaf of a table with three rows.
+fn three_rows(rt: &impl Abort) -> [u8; 512] {
+    let mut page = page_with(
+        rt,
+        0,
+        b"\x0d\x00\x00\x00\x03\x01\xe4\x00\x01\xf6\x01\xec\x01\xe4",
+    );
+    put(rt, &mut page, 484, b"\x06\x03\x04\x00\x11\x00cy");
+    put(rt, &mut page, 492, b"\x08\x02\x04\x00\x13\x01bob\x14");
+    put(rt, &mut page, 502, b"\x08\x01\x04\x00\x13\x01ann\x0a");
+    page
+}
+
+/// A leaf of a table with one row of 1505 bytes, 39 of them in its cell, that goes on at page 3.
+fn spilled(rt: &impl Abort) -> [u8; 512] {
+    let mut page = page_with(rt, 0, b"\x0d\x00\x00\x00\x01\x01\xd2\x00\x01\xd2");
+    put(rt, &mut page, 466, b"\x8b\x61\x01");
+    page[511] = 3;
+    page
+}
+
+fn layout(usable: u32, pages: u32, pointer_maps: bool, free_head: u32) -> Layout {
+    Layout {
+        page_size: 512,
+        usable,
+        pages,
+        pointer_maps,
+        free_head,
+    }
+}
+
+/// The runs of a map are these, each a start, a length and a label.
+fn assert_runs(rt: &impl Abort, map: &PageMap, want: &[(u32, u32, Label)]) {
+    let mut runs = map.runs();
+    for (start, len, label) in want {
+        let span = Span {
+            start: *start,
+            len: *len,
+        };
+        assert_eq!(rt; runs.next(), Some((span, *label)));
+    }
+    assert_eq!(rt; runs.next(), None);
+}
+
+/// The runs of page `no` of these pages are these.
+fn assert_page(
+    rt: &impl Abort,
+    alloc: Global,
+    sheets: &[&[u8]],
+    layout: &Layout,
+    no: u32,
+    want: &[(u32, u32, Label)],
+) -> Result<(), Fail> {
+    assert!(rt; sheets.len() <= 6 && layout.page_size == 512);
+    assert!(rt; 480 <= layout.usable && layout.usable <= 512);
+    let pages = Sheets::new(512, sheets);
+    let table = references(alloc, &pages, layout, &[2])?;
+    let map = page_map(alloc, &pages, &table, layout, no)?;
+    assert_runs(rt, &map, want);
+    Ok(())
+}
+
+#[test]
+fn claims_that_meet_overlap(rt: HostRuntime) -> Result<(), Fail> {
+    let alloc = rt.alloc();
+    let head = first(&rt);
+    let mut leaf = three_rows(&rt);
+    put(&rt, &mut leaf, 10, b"\x01\xe8");
+    let two = layout(512, 2, false, 0);
+    let want = [
+        (0, 8, Label::NodeHeader),
+        (8, 6, Label::Pointers),
+        (14, 470, Label::Gap),
+        (484, 4, Label::Cell(2)),
+        (488, 4, Label::Overlap),
+        (492, 10, Label::Cell(1)),
+        (502, 5, Label::Overlap),
+        (507, 5, Label::Cell(0)),
+    ];
+    assert_page(&rt, alloc, &[&head, &leaf], &two, 2, &want)?;
+    // a cell on a freeblock
+    let mut leaf = three_rows(&rt);
+    put(&rt, &mut leaf, 1, b"\x01\xec");
+    put(&rt, &mut leaf, 10, b"\x01\xe4\x01\xec");
+    put(&rt, &mut leaf, 492, b"\x00\x00\x00\x0a");
+    let want = [
+        (0, 8, Label::NodeHeader),
+        (8, 6, Label::Pointers),
+        (14, 470, Label::Gap),
+        (484, 8, Label::Cell(1)),
+        (492, 4, Label::Overlap),
+        (496, 6, Label::Freeblock(0)),
+        (502, 10, Label::Cell(0)),
+    ];
+    assert_page(&rt, alloc, &[&head, &leaf], &two, 2, &want)
+}
+
+#[test]
+fn a_chain_goes_past_its_payload(rt: HostRuntime) -> Result<(), Fail> {
+    let alloc = rt.alloc();
+    let (head, leaf) = (first(&rt), spilled(&rt));
+    let (third, fourth) = (page_with(&rt, 3, b"\x04"), page_with(&rt, 3, b"\x05"));
+    let (fifth, sixth) = (page_with(&rt, 3, b"\x06"), [0; 512]);
+    let six = layout(512, 6, false, 0);
+    let sheets: [&[u8]; 6] = [&head, &leaf, &third, &fourth, &fifth, &sixth];
+    let want = [
+        (0, 4, Label::Link),
+        (4, 450, Label::Body),
+        (454, 58, Label::Tail),
+    ];
+    assert_page(&rt, alloc, &sheets, &six, 5, &want)?;
+    assert_page(&rt, alloc, &sheets, &six, 6, &[(0, 512, Label::LongChain)])?;
+    // page 4 is named once more
+    let circle = page_with(&rt, 3, b"\x04");
+    let sheets: [&[u8]; 6] = [&head, &leaf, &third, &fourth, &circle, &sixth];
+    assert_page(
+        &rt,
+        alloc,
+        &sheets,
+        &six,
+        4,
+        &[(0, 512, Label::DoubleClaim)],
+    )?;
+    assert_page(&rt, alloc, &sheets, &six, 5, &[(0, 512, Label::Behind)])?;
+    assert_page(&rt, alloc, &sheets, &six, 6, &[(0, 512, Label::Unreached)])
+}
+
+#[test]
+fn other_pages(rt: HostRuntime) -> Result<(), Fail> {
+    let alloc = rt.alloc();
+    let (head, leaf) = (first(&rt), three_rows(&rt));
+    let trunk = page_with(&rt, 7, b"\x01\x00\x00\x00\x04");
+    let sheets: [&[u8]; 4] = [&head, &leaf, &trunk, &leaf];
+    let four = layout(480, 4, false, 3);
+    let reserved = (480, 32, Label::Reserved);
+    let want = [
+        (0, 12, Label::TrunkHead),
+        (12, 468, Label::TrunkRest),
+        reserved,
+    ];
+    assert_page(&rt, alloc, &sheets, &four, 3, &want)?;
+    assert_page(
+        &rt,
+        alloc,
+        &sheets,
+        &four,
+        4,
+        &[(0, 480, Label::FreeLeaf), reserved],
+    )?;
+    assert_page(&rt, alloc, &sheets, &four, 5, &[(0, 512, Label::Absent)])?;
+    let lock = [(0, 512, Label::LockPage)];
+    assert_page(&rt, alloc, &sheets, &four, 2_097_153, &lock)?;
+    let want = [
+        (0, 100, Label::DbHeader),
+        (100, 8, Label::NodeHeader),
+        (108, 372, Label::Gap),
+        reserved,
+    ];
+    assert_page(&rt, alloc, &sheets, &four, 1, &want)
+}
+
+#[test]
+fn a_key_says_the_labels(rt: HostRuntime) -> Result<(), Fail> {
+    let alloc = rt.alloc();
+    let (head, leaf) = (first(&rt), three_rows(&rt));
+    let two = layout(512, 2, false, 0);
+    let sheets: [&[u8]; 2] = [&head, &leaf];
+    let pages = Sheets::new(512, &sheets);
+    let table = references(alloc, &pages, &two, &[2])?;
+    let key = PageKey {
+        usable: 512,
+        standing: Standing::Node,
+    };
+    assert_eq!(rt; page_key(&pages, &table, &two, 2), key);
+    let map = keyed_map(alloc, &leaf, key)?;
+    assert!(rt; map.label_at(0) == Label::NodeHeader && map.label_at(14) == Label::Gap);
+    assert!(rt; map.label_at(13) == Label::Pointers && map.label_at(511) == Label::Cell(0));
+    assert!(rt; map.totals().owned == 42 && map.totals().slack == 470);
+    let bodied = PageKey {
+        usable: 480,
+        standing: Standing::Body(100),
+    };
+    let map = keyed_map(alloc, &leaf, bodied)?;
+    assert_eq!(rt;
+        map.totals(),
+        Totals {
+            owned: 136,
+            slack: 376,
+            fault: 0
+        }
+    );
+    Ok(())
+}
+
+#[test]
+fn absent_pages_stand_between_present_ones(rt: HostRuntime) {
+    let head = first(&rt);
+    let sheets: [&[u8]; 6] = [b"", &head, b"", b"", &head, b""];
+    let pages = Sheets::new(512, &sheets);
+    let mut stretches = Stretches::start(&pages, &layout(512, 6, false, 0));
+    for want in [
+        Stretch::Absent { first: 1, last: 1 },
+        Stretch::Present(2),
+        Stretch::Absent { first: 3, last: 4 },
+        Stretch::Present(5),
+        Stretch::Absent { first: 6, last: 6 },
+    ] {
+        assert_eq!(rt; stretches.next(), Some(want));
+    }
+    assert_eq!(rt; stretches.next(), None);
+}
