@@ -88,19 +88,19 @@ own_record table i first m b offset run next later order number here inside is =
     ∙ ap (λ answer. or_else answer (found later (run.head + at))) whole
     ∙ ap (λ n. Some (Image (pages_of table + table.frames + (n + m)) b)) number
 
-own_offset : (table : Table) (run : Stretch) (others : List ℕ) (m : ℕ) → m < run.entries
+pub own_offset : (table : Table) (run : Stretch) (others : List ℕ) (m : ℕ) → m < run.entries
     → get_or (run_offsets table run ++ others) m 0 ≡ records_start table run + m * record_len table.page_size + 4
 own_offset table run others m here =
     let long : length (run_offsets table run) ≡ run.entries = length-map-range_with_len _ 0 run.entries in
     get_or_append_left (run_offsets table run) others 0 m (omega (arith, here, long)) ∙ get_or-map-range_with_len _ 0 run.entries m m 0 here (omega arith)
 
-later_offset : (table : Table) (run : Stretch) (others : List ℕ) (m : ℕ) → run.entries ≤ m → get_or (run_offsets table run ++ others) m 0 ≡ get_or others (m - run.entries) 0
+pub later_offset : (table : Table) (run : Stretch) (others : List ℕ) (m : ℕ) → run.entries ≤ m → get_or (run_offsets table run ++ others) m 0 ≡ get_or others (m - run.entries) 0
 later_offset table run others m past =
     let long : length (run_offsets table run) ≡ run.entries = length-map-range_with_len _ 0 run.entries in
     let moved : m ≡ length (run_offsets table run) + (m - run.entries) = omega (arith, long, past) in
     ap (λ n. get_or (run_offsets table run ++ others) n 0) moved ∙ get_or-append-add (run_offsets table run) others (m - run.entries) 0
 
-all_offsets : (table : Table) (run : Stretch) (others : List ℕ) → length (run_offsets table run ++ others) ≡ run.entries + length others
+pub all_offsets : (table : Table) (run : Stretch) (others : List ℕ) → length (run_offsets table run ++ others) ≡ run.entries + length others
 all_offsets table run others =
     length-append (run_offsets table run) others ∙ ap (λ n. n + length others) (length-map-range_with_len _ 0 run.entries)
 
@@ -141,7 +141,7 @@ found_record table i least first m b (run ∷ next ∷ rest) order follow within
           )
     ]
 
-some_image : (a b : PageImage) → Some a ≡ Some b → a ≡ b
+pub some_image : (a b : PageImage) → Some a ≡ Some b → a ≡ b
 some_image a b e = ap (λ o. unwrap_or o a) e
 
 -- the byte of an image
@@ -166,7 +166,7 @@ log_says table k b offset image below inside is laid =
     (sym here ∙ ap or_loose (found_page table.page_size (pages_of table) k b offset at inside), omega (arith, is, laid.2, inside)) in
     subst (λ p. (place_among (things_of table p) offset ≡ Image (pages_of table + k) b) × (offset < length_of table.lengths p)) part says
 
-record_offset : (table : Table) (m : ℕ) (image : PageImage) → IsTable table → slice_get table.stored (table.frames + m) ≡ Some image
+pub record_offset : (table : Table) (m : ℕ) (image : PageImage) → IsTable table → slice_get table.stored (table.frames + m) ≡ Some image
     → (get_or (flat_map (run_offsets table) table.stretches) m 0 ≡ image.offset) × (m < length (flat_map (run_offsets table) table.stretches))
 record_offset table m image laid is =
     let offset : PageImage → ℕ = λ image. image.offset in

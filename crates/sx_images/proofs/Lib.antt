@@ -4,3 +4,4 @@ pub mod Journals
 pub mod Lists
 pub mod Made
 pub mod Imaged
+pub mod Ordered

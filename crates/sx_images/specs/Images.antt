@@ -1,7 +1,7 @@
 -- The page images of the three files ("Pages"; "WAL File Format"; "The Rollback Journal"): each whole page of the database,
 -- the page of each frame of the log, and that of each record of the journal, in order of file and offset.
 -- Offsets are in bytes from the start of a file. Pages are numbered from 1, everything else from 0.
-use Rattle.std.specs.Prelude.{◌≡◌, ℕ, ◌+◌, ◌*◌, ◌/◌, ◌<◌, List, [], ◌∷◌, ◌++◌, length, map, slice_get, Option, None, Some}
+use Rattle.std.specs.Prelude.{◌≡◌, ℕ, ◌+◌, ◌*◌, ◌/◌, ◌<◌, ◌≤◌, ◌⊎◌, List, [], ◌∷◌, ◌++◌, length, map, slice_get, Option, None, Some}
 use Rattle.std.specs.List.{range_with_len}
 use Rattle.sx_base.specs.declared.evidence.Part.{Part}
 use Rattle.sx_base.specs.declared.evidence.Part.TheVariants.{Database, Wal, Journal}
@@ -91,3 +91,14 @@ pub record Holds (table : Table) (i b : ℕ) (place : Place) : Type 0 where
   pub part : image.part ≡ place.part
   pub byte : place.offset ≡ image.offset + b
   pub within : b < table.page_size
+
+-- the order of the files
+abbrev pub part_number : Part → ℕ
+part_number Database = 0
+part_number Wal = 1
+part_number Journal = 2
+
+-- an image stands before another: in an earlier file, or in the same file and not into the other
+abbrev pub IsBefore : ℕ → Image → Image → Type 0
+IsBefore page_size first second =
+    (part_number first.part < part_number second.part) ⊎ ((first.part ≡ second.part) × (first.offset + page_size ≤ second.offset))

@@ -1,6 +1,6 @@
 //! The images of the three files, by number.
 ghost use Rattle.std.specs.Prelude.{◌≡◌, ◌↔◌, ℕ, ◌+◌, ◌<◌, ◌≤◌, length, slice_get, Option, Some, None};
-ghost use Rattle.sx_images.specs.Images.{pages_of, images_of, Holds};
+ghost use Rattle.sx_images.specs.Images.{pages_of, images_of, Holds, IsBefore};
 ghost use Rattle.sx_images.specs.Search.{begun};
 
 use crate::image::Image;
@@ -70,6 +70,13 @@ impl ImageTable {
         ensures { (i : ℕ) → (result ≡ Some i) ↔ Holds self.now i 0 place }
     {
         begun(self.place_of(place))
+    }
+
+    /// The images stand in order of file and offset, and none reaches into the next. This is a law; the call has no code.
+    pub fn images_stand_in_order(&self)
+        ensures { (i j : ℕ) (first second : Image) → i < j → slice_get (images_of self.now) i ≡ Some first → slice_get (images_of self.now) j ≡ Some second → IsBefore self.now.page_size first second }
+    {
+        let _frames = self.frames;
     }
 
     /// How many whole pages the database file has.

@@ -104,3 +104,6 @@ one_fills old new end label behind is = subst (Fills (λ at. label) (length old)
 pub one_map : (old new : List Label) (len : ℕ) (label : Label) → old ≡ [] → new ≡ old ++ replicate (len - length old) label → new ≡ map (λ at. label) (range_with_len 0 len)
 unfolding up_to
 one_map old new len label none is = is ∙ put_all (λ at. label) old len label none (λ at below. refl)
+
+pub one_long : (old new : List Label) (len : ℕ) (label : Label) → old ≡ [] → new ≡ old ++ replicate (len - length old) label → length new ≡ len
+one_long old new len label none is = ap length (one_map old new len label none is) ∙ length-map-range_with_len (λ at. label) 0 len

@@ -1,5 +1,6 @@
 -- The labels that a key gives.
 use Rattle.std.proofs.Common.{◌≡◌, ℕ, ◌-◌, ◌/◌, ◌<◌, ◌≤◌, Bool, true, false, cond, nat_le, nat_lt, List, ◌++◌, length, replicate, Ok, Err, refl, sym, ap, ◌∙◌, arith}
+use Rattle.std.proofs.lemmas.List.FromFn.{length-map-range_with_len}
 use Rattle.sx_base.specs.declared.label.Label.{Label}
 use Rattle.sx_base.specs.declared.label.Label.TheVariants.{Reserved}
 use Rattle.sx_free.specs.declared.trunk.TrunkFault.TheVariants.{BadCount}
@@ -39,3 +40,7 @@ pub trunk_usable : (bytes : List ℕ) (usable : ℕ) (trunk : TrunkPage) → tru
 unfolding trunk_of
 trunk_usable bytes usable trunk is =
     trunk_case usable trunk (record { page = bytes; usable = usable }) (nat_lt (usable / 4 - 2) (leaf_count (record { page = bytes; usable = usable }))) refl is
+
+pub keyed_long : (key : PageKey) (bytes : List ℕ) (made : List Label) → made ≡ keyed_labels key bytes → length made ≡ length bytes
+unfolding keyed_labels
+keyed_long key bytes made is = ap length is ∙ length-map-range_with_len (key_label key bytes) 0 (length bytes)

@@ -28,7 +28,8 @@ pub fn keyed_map(alloc: Global, view: &[u8], key: PageKey) -> Result<PageMap, Al
     requires least { 480 ≤ key.usable }
     requires within { key.usable ≤ length view.now }
     requires small { length view.now ≤ 65536 }
-    ensures { IfOk result (λ map. map ≡ keyed_labels key view.now) }
+    ensures exact { IfOk result (λ map. map ≡ keyed_labels key view.now) }
+    ensures len { IfOk result (λ map. length map ≡ length view.now) }
 {
     let mut map = PageMap::new(alloc);
     put_standing(alloc, &mut map, view, key)?;

@@ -29,6 +29,7 @@ pub fn page_map<'a, P: Pages<'a>>(
     requires within { layout.now.usable ≤ layout.now.page_size }
     requires small { layout.now.page_size ≤ 65536 }
     ensures exact { IfOk result (λ made. made ≡ table_labels refs.now layout.now (P.view pages.now) no) }
+    ensures len { IfOk result (λ made. length made ≡ layout.now.page_size) }
     ensures labels { IfOk result (AreLabels (P.pages pages.now) (P.view pages.now) layout.now refs.now no) }
 {
     // That the pages have a size says how long their views are.
@@ -50,7 +51,8 @@ fn table_map<'a, P: Pages<'a>>(
     requires least { 480 ≤ layout.now.usable }
     requires within { layout.now.usable ≤ layout.now.page_size }
     requires small { layout.now.page_size ≤ 65536 }
-    ensures { IfOk result (λ made. made ≡ table_labels refs.now layout.now (P.view pages.now) no) }
+    ensures exact { IfOk result (λ made. made ≡ table_labels refs.now layout.now (P.view pages.now) no) }
+    ensures len { IfOk result (λ made. length made ≡ layout.now.page_size) }
 {
     if no == layout.lock_page() {
         return one_label(alloc, layout.page_size, Label::LockPage);
@@ -64,7 +66,8 @@ fn table_map<'a, P: Pages<'a>>(
 /// The map of a page whose bytes have one label.
 fn one_label(alloc: Global, len: u32, label: Label) -> Result<PageMap, AllocError>
     requires { len ≤ 65536 }
-    ensures { IfOk result (λ made. made ≡ map (λ at. label) (range_with_len 0 len)) }
+    ensures exact { IfOk result (λ made. made ≡ map (λ at. label) (range_with_len 0 len)) }
+    ensures len { IfOk result (λ made. length made ≡ len) }
 {
     let mut made = PageMap::new(alloc);
     made.put(len, label)?;

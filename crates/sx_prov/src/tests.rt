@@ -200,6 +200,8 @@ fn a_key_says_the_labels(rt: HostRuntime) -> Result<(), Fail> {
     };
     assert_eq!(rt; page_key(&pages, &table, &two, 2), key);
     let map = keyed_map(alloc, &leaf, key)?;
+    assert!(rt; map.label_at(0) == Label::NodeHeader && map.label_at(14) == Label::Gap);
+    assert!(rt; map.label_at(13) == Label::Pointers && map.label_at(511) == Label::Cell(0));
     assert!(rt; map.totals().owned == 42 && map.totals().slack == 470);
     let bodied = PageKey {
         usable: 480,
