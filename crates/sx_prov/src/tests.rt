@@ -191,6 +191,7 @@ fn a_key_says_the_labels(rt: HostRuntime) -> Result<(), Fail> {
     let alloc = rt.alloc();
     let (head, leaf) = (first(&rt), three_rows(&rt));
     let two = layout(512, 2, false, 0);
+    assert!(rt; two.page_size == 512 && two.usable == 512);
     let sheets: [&[u8]; 2] = [&head, &leaf];
     let pages = Sheets::new(512, &sheets);
     let table = references(alloc, &pages, &two, &[2])?;
@@ -224,7 +225,9 @@ fn absent_pages_stand_between_present_ones(rt: HostRuntime) {
     let head = first(&rt);
     let sheets: [&[u8]; 6] = [b"", &head, b"", b"", &head, b""];
     let pages = Sheets::new(512, &sheets);
-    let mut stretches = Stretches::start(&pages, &layout(512, 6, false, 0));
+    let six = layout(512, 6, false, 0);
+    assert!(rt; six.page_size == 512);
+    let mut stretches = Stretches::start(&pages, &six);
     for want in [
         Stretch::Absent { first: 1, last: 1 },
         Stretch::Present(2),
