@@ -8,7 +8,7 @@ use sx_prov::{PageKey, Standing, keyed_map};
 #[test]
 fn a_page_is_told_by_its_runs(rt: HostRuntime) -> Result<(), Fail> {
     let alloc = rt.alloc();
-    let page = vec![in alloc; 0u8; 512]?;
+    let page = [0u8; 512];
     let key = PageKey {
         usable: 500,
         standing: Standing::Body(100),
