@@ -1,0 +1,13 @@
+//! The text of `map`: each byte of each page of a moment by its label.
+#![tactic(auto)]
+
+mod headless;
+mod page_map_lines;
+mod totals;
+
+pub use headless::HeadlessLines;
+pub use page_map_lines::{PageMapLines, put_absent_line};
+pub use totals::{MapTotals, put_totals_line};
+
+#[cfg(test)]
+mod tests;
