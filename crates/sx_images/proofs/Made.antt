@@ -20,7 +20,7 @@ use Rattle.sx_wal.specs.declared.slot.Slot.{Slot}
 use Rattle.sx_wal.proofs.LogLemmas.{slot_stands}
 use Rattle.sx_journal.specs.Header.{count_at, has_header, sector_at, page_size_at, is_sector_size, is_live, is_zeroed}
 use Rattle.sx_journal.specs.Segments.{record_len, whole_records, is_counted, records_behind, following, segment_at, AreSegments, segments_of}
-use Rattle.sx_journal.specs.Entries.{Record, entry_at, records_from, records_in, records_of, entries_of, unchecked}
+use Rattle.sx_journal.specs.Entries.{Record, record_from, records_from, records_in, records_of, entries_of, unchecked}
 use Rattle.sx_journal.specs.Journal.{Journal as RollbackJournal, live_journal, journal_of}
 use Rattle.sx_journal.specs.declared.segment.Segment.{Segment}
 use Rattle.sx_journal.specs.declared.entry.Entry.{Entry}
@@ -198,14 +198,14 @@ live_laid table bytes held live same =
 
 entries_offsets : (bytes : List ℕ) (page_size : ℕ) (class : Class) (records : List Record)
     → map (λ (entry : Entry). entry.offset) (entries_of bytes page_size class records) ≡ map (λ (item : Record). item.place + 4) records
-unfolding entry_at
+unfolding record_from
 entries_offsets bytes page_size class [] = refl
 entries_offsets bytes page_size class (item ∷ rest) = ap (λ places. (item.place + 4) ∷ places) (entries_offsets bytes page_size class rest)
 
 unchecked_many : (bytes : List ℕ) (page_size : ℕ) → length (unchecked bytes page_size) ≡ whole_records bytes page_size 512
 unfolding unchecked
 unchecked_many bytes page_size =
-    length-map (records_from page_size 512 0 (whole_records bytes page_size 512)) (λ (item : Record). entry_at bytes page_size Unchecked item.place)
+    length-map (records_from page_size 512 0 (whole_records bytes page_size 512)) (λ (item : Record). record_from bytes page_size Unchecked item.place)
     ∙ length-map-range_with_len _ 0 (whole_records bytes page_size 512)
 
 unchecked_offsets : (bytes : List ℕ) (page_size : ℕ)
