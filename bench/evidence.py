@@ -86,6 +86,51 @@ def craft(path, pages, frames):
     write_log(f"{path}-wal", frames)
 
 
+def varint(number):
+    """A number's spelling of one to five bytes."""
+    spelled = [number & 127]
+    while number >= 128:
+        number >>= 7
+        spelled.append(128 | number & 127)
+    return bytes(reversed(spelled))
+
+
+def node(page_size, kind, pointers, pieces, front=b"", right=b""):
+    """A b-tree page: these cell pointers, and pieces at their places."""
+    head = bytes((kind, 0, 0)) + len(pointers).to_bytes(2, "big") + min(pointers).to_bytes(2, "big") + b"\0" + right
+    page = bytearray(front + head + b"".join(pointer.to_bytes(2, "big") for pointer in pointers)).ljust(page_size, b"\0")
+    for at, piece in pieces:
+        page[at : at + len(piece)] = piece
+    return bytes(page)
+
+
+def share_chain(path, cells, chain, page_size=4096):
+    """A database whose table `t` has so many cells, all of which name one chain of so many overflow pages: one page fewer
+    than each of them needs."""
+    room = page_size - 4
+    local = (page_size - 12) * 32 // 255 - 23
+    text = b"CREATE TABLE t(a)"
+    record = bytes((6, 23, 15, 15, 1, 13 + 2 * len(text))) + b"tablett\x02" + text
+    entry = varint(len(record)) + b"\x01" + record
+    leaves = -(-cells // 1500)
+    first = 3 + leaves
+    row = varint(local + (chain + 1) * room) + b"\x01" + bytes(local) + first.to_bytes(4, "big")
+    at = page_size - len(row)
+    with open(path, "wb") as file:
+        place = page_size - len(entry)
+        file.write(node(page_size, 13, [place], [(place, entry)], header(page_size, first - 1 + chain)))
+        inner = [(page_size - 6 * (i + 1), (3 + i).to_bytes(4, "big") + b"\x01") for i in range(leaves - 1)]
+        right = (2 + leaves).to_bytes(4, "big")
+        if inner:
+            file.write(node(page_size, 5, [at_ for at_, _ in inner], inner, right=right))
+        else:
+            file.write(node(page_size, 5, [page_size - 6], [(page_size - 6, right + b"\x01")], right=bytes(4)))
+        for i in range(leaves):
+            file.write(node(page_size, 13, [at] * min(1500, cells - 1500 * i), [(at, row)]))
+        for i in range(chain):
+            file.write((first + i + 1 if i + 1 < chain else 0).to_bytes(4, "big").ljust(page_size, b"\0"))
+
+
 def remove(path):
     for ending in ("", "-wal", "-shm", "-journal"):
         Path(f"{path}{ending}").unlink(missing_ok=True)
@@ -121,21 +166,21 @@ def one_row_commits(count):
     return statements
 
 
-def busy(rows, commits, changed):
-    """A database of about 250 bytes a row in four tables with an index, and then a log of so many commits that each
-    change some rows."""
+def busy(rows, commits, changed, tables=("message", "person", "call", "place")):
+    """A database of about 250 bytes a row in these tables, the first with an index, and then a log of so many commits
+    that each change some rows."""
 
     def statements(made):
         made.execute("PRAGMA synchronous = OFF")
         made.execute("PRAGMA journal_mode = OFF")
         made.execute("BEGIN")
-        for table in ("message", "person", "call", "place"):
+        for table in tables:
             made.execute(f"CREATE TABLE {table}(id INTEGER PRIMARY KEY, sent INTEGER, name TEXT, body TEXT, extra BLOB)")
             made.executemany(
                 f"INSERT INTO {table}(sent, name, body, extra) VALUES (?, ?, ?, ?)",
                 (
                     (1700000000 + i * 37, f"name {i * 7919 % 100003}", f"the body of row {i} of {table}, " * 4, bytes((i * j) % 251 for j in range(40)))
-                    for i in range(rows // 4)
+                    for i in range(rows // len(tables))
                 ),
             )
         made.execute("CREATE INDEX message_name ON message(name)")
@@ -145,8 +190,8 @@ def busy(rows, commits, changed):
         for commit in range(commits):
             made.execute("BEGIN")
             for j in range(changed):
-                row = (commit * changed + j) * 7919 % (rows // 4) + 1
-                table = ("message", "person", "call", "place")[j % 4]
+                row = (commit * changed + j) * 7919 % (rows // len(tables)) + 1
+                table = tables[j % len(tables)]
                 if j % 5 == 0:
                     made.execute(f"DELETE FROM {table} WHERE id = ?", (row,))
                 else:

@@ -192,6 +192,33 @@ def journals():
     write("journal_with_records_exchanged", EMPTY + DELETED[512:], journal=exchanged)
 
 
+# Two pages in UTF-16le: a table `u` with the texts `aé😀`, and a half of a pair before a single byte.
+UTF_16 = placed(
+    (0, changed(PLAIN[:100], (59, 2))),
+    (100, [13, 0, 0, 0, 1, 1, 199, 0, 1, 199]),
+    (455, [55, 1, 6, 33, 17, 17, 1, 81]),
+    (463, "tableuu".encode("utf-16le")),
+    (477, [2]),
+    (478, "CREATE TABLE u(b)".encode("utf-16le")),
+    (512, [13, 0, 0, 0, 2, 1, 237, 0, 1, 244, 1, 237]),
+    (1005, [5, 2, 2, 19, 0, 216, 65]),
+    (1012, [10, 1, 2, 29, 97, 0, 233, 0, 61, 216, 0, 222]),
+)
+
+
+def tables():
+    write("round_table", placed((0, changed(FIRST, (31, 3))), (512, [5, 0, 0, 0, 1, 1, 251, 0, 0, 0, 0, 3, 1, 251]), (1019, [0, 0, 0, 2, 1]), (1024, ROWS)))
+    write("overlapping_cells", changed(PLAIN, (523, 232)))
+    write("spilled_cut_short", changed(SPILLED, (1539, 0)))
+    write("spilled_and_round", changed(SPILLED, (2051, 4)))
+    write("table_without_a_tree", changed(PLAIN, (461, 0)))
+    write("root_that_is_not_held", changed(PLAIN, (461, 9)))
+    write("text_of_no_table", changed(PLAIN, (462, 68)))
+    write("column_that_came_later", changed(PLAIN, (507, 44), (508, 100), (509, 32), (510, 32)))
+    write("utf_16_little", UTF_16)
+    write("utf_16_big", changed(UTF_16, (59, 3)))
+
+
 def nodes():
     inner = [5, 0, 0, 0, 1, 1, 251, 0, 0, 0, 0, 3, 1, 251]
     write(
@@ -214,3 +241,4 @@ if __name__ == "__main__":
     logs()
     journals()
     nodes()
+    tables()

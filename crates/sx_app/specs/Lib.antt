@@ -1,6 +1,8 @@
 pub mod Evidence
 pub mod Moments
 pub mod Refusals
+pub mod Tables
+pub mod GivenTables
 pub mod Commands
 pub mod Answers
 pub mod Stages

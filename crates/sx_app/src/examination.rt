@@ -76,7 +76,7 @@ fn carry_out<S: Store, W: Sink>(
 fn examine_evidence<S: Store, W: Sink>(
     alloc: Global,
     db: &str,
-    question: &Question,
+    question: &Question<'_>,
     store: &mut S,
     out: &mut W,
 ) -> Result<(), Refused>
@@ -93,7 +93,7 @@ fn examine_evidence<S: Store, W: Sink>(
 // What a question asks for, over evidence that was opened.
 fn answer_over<W: Sink>(
     alloc: Global,
-    question: &Question,
+    question: &Question<'_>,
     loaded: &Loaded,
     out: &mut W,
 ) -> Result<(), Refused>

@@ -20,7 +20,7 @@ use sx_words::Question;
 /// may meet; whatever the reply is that these lines or this refusal give, the examination answers with it.
 pub fn finish<L: Lines + Drop, W: Sink>(
     alloc: Global,
-    question: &Question,
+    question: &Question<'_>,
     prepared: Result<L, Refused>,
     out: &mut W,
 ) -> Result<(), Refused>

@@ -11,6 +11,7 @@ mod loaded;
 mod moments;
 mod refusals;
 mod refused;
+mod tables;
 
 pub use completeness::answers_are_complete;
 pub use examination::examine;

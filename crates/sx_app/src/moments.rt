@@ -1,11 +1,13 @@
 //! The moment that the words ask for.
-ghost use Rattle.std.specs.Prelude.{◌≡◌, IfOk, IfErr};
+ghost use Rattle.std.specs.Prelude.{◌≡◌, IfOk, IfErr, Ok};
 ghost use Rattle.std.specs.List.{last_or};
+ghost use Rattle.sx_base.specs.declared.moment.Moment.{Moment};
 ghost use Rattle.sx_moment.specs.Gathered.{moments_of};
 ghost use Rattle.sx_app.specs.Moments.{moment_of, MayMiss};
 ghost use Rattle.sx_app.specs.Owed.{Gives};
 
 use crate::refused::Refused;
+use sx_base::Moment;
 use sx_moment::{Case, Snapshot};
 use sx_words::When;
 
@@ -35,5 +37,16 @@ fn last_snapshot<'c, 'a>(case: &'c Case<'a>) -> Snapshot<'c, 'a>
     match case.snapshot(case.last()) {
         Some(snapshot) => snapshot,
         None => unreachable!(),
+    }
+}
+
+/// The moment that is asked for, whether it is one of the evidence or not.
+#[tactic(auto, using(crate::proofs::Missing::last_meant, crate::proofs::Missing::named_meant), unfolding(crate::specs::Moments::moment_of))]
+pub fn moment_meant(case: &Case<'_>, at: When) -> Moment
+    ensures { (moment : Moment) → moment_of case.now at ≡ Ok moment → moment ≡ result }
+{
+    match at {
+        When::Last => case.last(),
+        When::At(moment) => moment,
     }
 }

@@ -10,7 +10,7 @@ use Rattle.sx_base.specs.declared.moment.Moment.TheVariants as moments
 use Rattle.sx_words.specs.declared.command.Command.{Command}
 use Rattle.sx_words.specs.declared.command.Command.TheVariants as commands
 use Rattle.sx_words.specs.declared.key.Key.{Key}
-use Rattle.sx_words.specs.declared.key.Key.TheVariants.{No, At}
+use Rattle.sx_words.specs.declared.key.Key.TheVariants.{No, Table, At}
 use Rattle.sx_words.specs.declared.key.Wanted.{Wanted}
 use Rattle.sx_words.specs.declared.key.Wanted.TheVariants.{Required, Allowed}
 use Rattle.sx_words.specs.declared.request.Question.{Question as ReadQuestion}
@@ -24,6 +24,7 @@ use Rattle.sx_words.specs.declared.request.Usage.{Usage}
 -- what can be asked of evidence, with names as lists of bytes: one case a command
 pub data Question : Type 0 where
   Timeline : Question
+  Show : (table : List ℕ) → (at : When) → Question
   Page : (number : ℕ) → (at : When) → Question
 
 -- what words can ask for: a question about the evidence of a database's name
@@ -40,11 +41,13 @@ is_name name = not (bytes_eq name [] || bytes_eq name (codes "drill"))
 abbrev pub command_named : List ℕ → Option Command
 command_named word =
     if bytes_eq word (codes "timeline") then Some commands.Timeline
-    else (if bytes_eq word (codes "page") then Some commands.Page else None)
+    else (if bytes_eq word (codes "show") then Some commands.Show
+    else (if bytes_eq word (codes "page") then Some commands.Page else None))
 
 -- the keys that the words behind a command may set, and which of them they must: one row a command
 abbrev pub keys_of : Command → List Wanted
 keys_of commands.Timeline = []
+keys_of commands.Show = Required Table ∷ Allowed At ∷ []
 keys_of commands.Page = Required No ∷ Allowed At ∷ []
 
 -- ---- words that set a key
@@ -52,6 +55,7 @@ keys_of commands.Page = Required No ∷ Allowed At ∷ []
 -- a key's name
 abbrev pub key_name : Key → List ℕ
 key_name No = codes "no"
+key_name Table = codes "table"
 key_name At = codes "at"
 
 -- the byte `=`
@@ -125,6 +129,12 @@ when_of (Some text) =
 
 -- ---- the request
 
+-- a table at some time, where that could be read
+abbrev pub show_of : Option (List ℕ) → Option When → Option Question
+show_of (Some table) (Some at) = Some (Show table at)
+show_of (Some table) None = None
+show_of None at = None
+
 -- a page at some time, where both could be read
 abbrev pub page_of : Option ℕ → Option When → Option Question
 page_of (Some number) (Some at) = Some (Page number at)
@@ -134,6 +144,7 @@ page_of None at = None
 -- the question of a command, with words that set its keys, where their values can be read: one case a command
 unfoldable pub question_of : Command → List (List ℕ) → Option Question
 question_of commands.Timeline words = Some Timeline
+question_of commands.Show words = show_of (value_of Table words) (when_of (value_of At words))
 question_of commands.Page words = page_of (page_number_of (value_of No words)) (when_of (value_of At words))
 
 -- what a name, a command and the words behind it ask for
@@ -157,6 +168,7 @@ texts words = map string_bytes words
 -- what a question asks for, without where its names lie in memory: one case a command
 abbrev pub question_by : ReadQuestion → Question
 question_by questions.Timeline = Timeline
+question_by (questions.Show table at) = Show table.now at
 question_by (questions.Page number at) = Page number at
 
 -- what a request asks for, without where its names lie in memory

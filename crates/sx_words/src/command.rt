@@ -8,6 +8,7 @@ use crate::key::{Key, Wanted};
 #[derive(Clone, Copy, Debug, PartialEq, Eq)]
 pub enum Command {
     Timeline,
+    Show,
     Page,
 }
 
@@ -17,6 +18,7 @@ pub fn command_named(word: &str) -> Option<Command>
 {
     match word {
         "timeline" => Some(Command::Timeline),
+        "show" => Some(Command::Show),
         "page" => Some(Command::Page),
         _ => None,
     }
@@ -29,6 +31,7 @@ impl Command {
     {
         match self {
             Command::Timeline => &[],
+            Command::Show => &[Wanted::Required(Key::Table), Wanted::Allowed(Key::At)],
             Command::Page => &[Wanted::Required(Key::No), Wanted::Allowed(Key::At)],
         }
     }

@@ -7,6 +7,8 @@ ghost use Rattle.sx_words.specs.Words.{key_name, key_of};
 pub enum Key {
     /// The number of a page.
     No,
+    /// The name of a table.
+    Table,
     /// The moment of the evidence.
     At,
 }
@@ -18,6 +20,7 @@ impl Key {
     {
         match self {
             Key::No => "no",
+            Key::Table => "table",
             Key::At => "at",
         }
     }

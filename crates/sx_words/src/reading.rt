@@ -1,7 +1,7 @@
 //! The grammar of the words.
 ghost use Rattle.std.specs.Prelude.{◌≡◌, ◌∷◌, []};
 ghost use Rattle.std.specs.Option.{option_copied, option_map};
-ghost use Rattle.sx_words.specs.Words.{texts, request_of, command_of, question_of, page_of, command_named, page_number_of, when_of, asked, question_by, is_name, numbered};
+ghost use Rattle.sx_words.specs.Words.{texts, request_of, command_of, question_of, show_of, page_of, command_named, page_number_of, when_of, asked, question_by, is_name, numbered};
 
 use crate::command::{Command, command_named};
 use crate::key::Key;
@@ -16,8 +16,9 @@ const GREATEST: u64 = 4_294_967_295;
 /// Reads the words after the program's name.
 ///
 /// They are `<db> <command>` and words `key=value`, split at their first `=`. `<db>` isn't empty and isn't the word
-/// `drill`, which is kept for a command that reads no file. The commands are `timeline`, which has no key, and `page`
-/// with its keys `no`, from 1 to 4294967295, which is required, and `at`, which is `journal` or from 0 to 4294967295.
+/// `drill`, which is kept for a command that reads no file. The commands are `timeline`, which has no key; `show` with its
+/// keys `table`, which is required, and `at`; and `page` with its keys `no`, from 1 to 4294967295, which is required, and
+/// `at`. `at` is `journal` or from 0 to 4294967295.
 /// The keys come in any order, each at most once. A number is `0` or decimal digits that don't begin with 0.
 ///
 /// Every other list of words is outside the grammar, and `Usage` comes exactly there. The request borrows its names from
@@ -58,11 +59,12 @@ fn is_name(word: &str) -> bool
 
 // The question of a command, with words that set its keys, where their values can be read.
 #[tactic(auto, unfolding(crate::specs::Words::question_of))]
-fn read_question(command: Command, words: &[String]) -> Option<Question>
+fn read_question<'w>(command: Command, words: &'w [String]) -> Option<Question<'w>>
     ensures { option_map question_by result ≡ question_of command (texts words.now) }
 {
     match command {
         Command::Timeline => Some(Question::Timeline),
+        Command::Show => show(value_of(Key::Table, words), when(value_of(Key::At, words))),
         Command::Page => page(
             page_number(value_of(Key::No, words)),
             when(value_of(Key::At, words)),
@@ -70,8 +72,18 @@ fn read_question(command: Command, words: &[String]) -> Option<Question>
     }
 }
 
+// A table at some time, where that could be read.
+fn show(table: Option<&str>, at: Option<When>) -> Option<Question<'_>>
+    ensures { option_map question_by result ≡ show_of (option_copied table.entry) «at» }
+{
+    Some(Question::Show {
+        table: table?,
+        at: at?,
+    })
+}
+
 // A page at some time, where both could be read.
-fn page(no: Option<u32>, at: Option<When>) -> Option<Question>
+fn page(no: Option<u32>, at: Option<When>) -> Option<Question<'static>>
     ensures { option_map question_by result ≡ page_of «no» at }
 {
     Some(Question::Page { no: no?, at: at? })

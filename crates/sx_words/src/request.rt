@@ -6,14 +6,16 @@ use sx_base::Moment;
 #[derive(Clone, Copy, Debug, PartialEq, Eq)]
 pub enum Request<'w> {
     /// `<db> ..`: a question about the evidence of a database's name. The names of its companions follow from it.
-    Evidence { db: &'w str, question: Question },
+    Evidence { db: &'w str, question: Question<'w> },
 }
 
 /// A question about the evidence of a database's name.
 #[derive(Clone, Copy, Debug, PartialEq, Eq)]
-pub enum Question {
+pub enum Question<'w> {
     /// `timeline`: the states that the evidence still holds.
     Timeline,
+    /// `show table=T [at=M]`: the rows of a table at some time.
+    Show { table: &'w str, at: When },
     /// `page no=N [at=M]`: page `no`, from 1, at some time.
     Page { no: u32, at: When },
 }

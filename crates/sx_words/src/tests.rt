@@ -59,6 +59,18 @@ fn a_page_is_asked_for_by_its_number_and_a_time(rt: HostRuntime) -> Result<(), F
 }
 
 #[test]
+fn a_table_is_asked_for_by_its_name_and_a_time(rt: HostRuntime) -> Result<(), Fail> {
+    let words = owned(rt.alloc(), &["a.db", "show", "at=1", "table=a=b"])?;
+    let question = Question::Show {
+        table: "a=b",
+        at: When::At(Moment::Commit(1)),
+    };
+    let db = "a.db";
+    assert_eq!(rt; read_words(&words), Ok(Request::Evidence { db, question }));
+    Ok(())
+}
+
+#[test]
 fn other_words_are_outside_the_grammar(rt: HostRuntime) -> Result<(), Fail> {
     let alloc = rt.alloc();
     for words in [
@@ -89,6 +101,9 @@ fn other_words_are_outside_the_grammar(rt: HostRuntime) -> Result<(), Fail> {
         &["a.db", "page", "no=1", "no=1"],
         &["a.db", "page", "no=1", "at=1", "at=1"],
         &["a.db", "page", "no=1", "table=t"],
+        &["a.db", "show"],
+        &["a.db", "show", "table="],
+        &["a.db", "show", "table=t", "no=1"],
         &["a.db", "page", "no=1", "at"],
         &["a.db", "page", "no=1", "at="],
         &["a.db", "page", "no=1", "at=01"],
