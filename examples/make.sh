@@ -1,5 +1,5 @@
 #!/bin/sh
-# Makes the four small cases of this folder anew, with the stock command line of SQLite (3.40 or later):
+# Makes the six small cases of this folder anew, with the stock command line of SQLite (3.40 or later):
 #
 #     sh make.sh FOLDER
 #
@@ -13,7 +13,7 @@ if ! command -v sqlite3 >/dev/null; then
     exit 1
 fi
 mkdir -p "$folder"
-for case in chat restarted checkpointed interrupted; do
+for case in chat restarted checkpointed interrupted stock stations; do
     rm -f "$folder/$case".db*
 done
 
@@ -98,3 +98,26 @@ UPDATE notice SET body = 'removed';
 ROLLBACK;
 SQL
 rm -f "$folder/office.db"
+
+# A stock of things: values of every kind, an index, a table without rowids, a column that came later, and a row that is
+# too long for its page.
+session stock.db <<'SQL'
+PRAGMA page_size = 512;
+CREATE TABLE item(id INTEGER PRIMARY KEY, name TEXT, weight REAL, count INT, picture BLOB);
+CREATE INDEX item_name ON item(name);
+CREATE TABLE shelf(code TEXT PRIMARY KEY, room) WITHOUT ROWID;
+CREATE TABLE manual(item, body TEXT);
+INSERT INTO item VALUES (1, 'lamp', 0.75, 12, x'ffd8ff'), (2, 'Bob''s chair', 4, -1, NULL), (3, NULL, 1e-3, 9000000000, x'');
+INSERT INTO shelf VALUES ('b2', 'cellar'), ('a1', 7);
+INSERT INTO manual VALUES (1, printf('%.*c', 700, 'x')), (2, 'none');
+ALTER TABLE item ADD COLUMN sold TEXT;
+INSERT INTO item VALUES (4, 'rug' || char(10) || 'red', 3.5, 2, NULL, '2026-11-05');
+SQL
+
+# Texts in UTF-16.
+session stations.db <<'SQL'
+PRAGMA encoding = 'UTF-16le';
+PRAGMA page_size = 512;
+CREATE TABLE station(id INTEGER PRIMARY KEY, name TEXT);
+INSERT INTO station VALUES (1, 'Zürich HB'), (2, '東京'), (3, CAST(x'00d84100' AS TEXT));
+SQL
