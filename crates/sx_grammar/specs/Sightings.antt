@@ -2,7 +2,7 @@
 use Rattle.std.specs.Prelude.{◌≡◌, is_some, ℕ, ◌+◌, ◌-◌, ℤ, Bool, nat_le, if◌then◌else◌, false, true, List, [], ◌∷◌, length, take, drop, Option, Some, None}
 use Rattle.sx_record.specs.Content.{Content, content_of}
 use Rattle.sx_record.specs.SerialTypes.{body_len, content_in}
-use Rattle.sx_record.specs.Records.{listed}
+use Rattle.sx_record.specs.Records.{types_or_none}
 use Rattle.sx_grammar.specs.declared.form.Form.{Form}
 use Rattle.sx_grammar.specs.declared.form.Form.TheVariants.{Full, Tail, Types, Lost}
 use Rattle.sx_grammar.specs.declared.shown.Shown.{Shown}
@@ -33,7 +33,7 @@ with_lost (Lost n alias) columns = lost ∷ columns
 
 -- the columns of a form whose types and bodies stand in these bytes
 unfoldable pub columns_in : Form → List ℕ → List ℕ → List Seen
-columns_in form types bodies = with_lost form (seen (listed (used_types types)) bodies)
+columns_in form types bodies = with_lost form (seen (types_or_none (used_types types)) bodies)
 
 -- the length of the payload: the one that a whole cell names, and else what a span has besides the bytes that stand in front
 -- of its record, or in place of its record's first bytes
@@ -78,8 +78,8 @@ seen_of shown.Beyond = beyond
 
 -- the columns of these types and bodies, behind one whose type is lost or not
 unfoldable pub seen_from : Bool → List ℕ → List ℕ → List Seen
-seen_from false types bodies = seen (listed (used_types types)) bodies
-seen_from true types bodies = lost ∷ seen (listed (used_types types)) bodies
+seen_from false types bodies = seen (types_or_none (used_types types)) bodies
+seen_from true types bodies = lost ∷ seen (types_or_none (used_types types)) bodies
 
 -- the types of these columns stand there
 pub record AreShown (form : Form) (types bodies : List ℕ) (columns : ℕ) : Type 0 where

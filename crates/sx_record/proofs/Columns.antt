@@ -4,7 +4,7 @@ use Rattle.std.specs.Option.{option_map}
 use Rattle.sx_bytes.specs.Varints.{varint_at, IsVarint}
 use Rattle.sx_bytes.proofs.VarintLemmas.{found}
 use Rattle.sx_record.specs.SerialTypes.{body_len, content_in}
-use Rattle.sx_record.specs.Records.{types_within, types_in, found_first, contents, bodies_len, listed, columns_in, IsFilled}
+use Rattle.sx_record.specs.Records.{types_within, types_in, found_first, contents, bodies_len, types_or_none, columns_in, IsFilled}
 
 -- a number that is read has at least one byte
 pub some_read : (bytes : List ℕ) (value read : ℕ) → varint_at bytes ≡ Some (value, read) → 0 < read
@@ -63,7 +63,7 @@ record IsFirst (type : ℕ) (types bodies : List ℕ) (behind : List ℕ) : Type
   pub filled : IsFilled behind (drop (body_len type) bodies)
 
 first_of_all : (type : ℕ) (types behind bodies : List ℕ) (all rest : Option (List ℕ)) → types_in types ≡ all → types_in behind ≡ rest
-    → all ≡ option_map (λ types. type ∷ types) rest → is_some all ≡ true → bodies_len (listed all) ≡ length bodies
+    → all ≡ option_map (λ types. type ∷ types) rest → is_some all ≡ true → bodies_len (types_or_none all) ≡ length bodies
     → IsFirst type types bodies behind
 unfolding columns_in contents
 first_of_all type types behind bodies all None read left is whole full = absurd (cc)
@@ -88,7 +88,7 @@ first types bodies type len found some within filled =
 pub no_column : (types bodies : List ℕ) → varint_at types ≡ None → columns_in types bodies ≡ []
 unfolding columns_in contents types_in types_within
 no_column [] bodies none = refl
-no_column (byte ∷ types) bodies none = ap (λ found. contents (listed (found_first found (λ len. types_within (length types) (drop len (byte ∷ types))))) bodies) none
+no_column (byte ∷ types) bodies none = ap (λ found. contents (types_or_none (found_first found (λ len. types_within (length types) (drop len (byte ∷ types))))) bodies) none
 
 -- a column stands first
 pub one_column : (types bodies : List ℕ) (type len : ℕ) → varint_at types ≡ Some (type, len) → 0 < len → len ≤ length types → IsFilled types bodies

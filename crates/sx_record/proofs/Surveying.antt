@@ -6,7 +6,7 @@ use Rattle.std.specs.Option.{option_map}
 use Rattle.std.specs.List.{list_any}
 use Rattle.sx_bytes.specs.Varints.{varint_at}
 use Rattle.sx_record.specs.SerialTypes.{body_len, is_unused}
-use Rattle.sx_record.specs.Records.{types_in, bodies_len, listed, contents, columns_in, IsFilled, survey_of, typed_record}
+use Rattle.sx_record.specs.Records.{types_in, bodies_len, types_or_none, contents, columns_in, IsFilled, survey_of, typed_record}
 use Rattle.sx_record.specs.Surveys.{lowered, is_filled, survey_behind}
 use Rattle.sx_record.specs.declared.fault.RecordFault.TheVariants.{HeaderSize, UnusedType, BodyLength}
 use Rattle.sx_record.specs.declared.survey.Survey.{Survey}
@@ -77,9 +77,9 @@ unread types bodies said = said_none (length bodies) bodies (types_in types) sai
 -- the parts of what a survey says, where there is one
 record IsSaid (bodies : List ℕ) (types : Option (List ℕ)) (survey : Survey) : Type 0 where
   pub there : is_some types ≡ true
-  pub columns : survey.columns ≡ length (listed types)
-  pub unused : survey.unused ≡ list_any is_unused (listed types)
-  pub fits : survey.fits ≡ (length bodies == bodies_len (listed types))
+  pub columns : survey.columns ≡ length (types_or_none types)
+  pub unused : survey.unused ≡ list_any is_unused (types_or_none types)
+  pub fits : survey.fits ≡ (length bodies == bodies_len (types_or_none types))
 
 first_survey : Survey → Option Survey → Survey
 first_survey other None = other
@@ -97,17 +97,17 @@ said bodies (Some types) survey is =
       fits = ap (λ (s : Survey). s.fits) (sym same);
     }
 
-typed_unused : (bodies : List ℕ) (types : Option (List ℕ)) → is_some types ≡ true → list_any is_unused (listed types) ≡ true → typed_record bodies types ≡ Err UnusedType
+typed_unused : (bodies : List ℕ) (types : Option (List ℕ)) → is_some types ≡ true → list_any is_unused (types_or_none types) ≡ true → typed_record bodies types ≡ Err UnusedType
 typed_unused bodies None there any = cc
 typed_unused bodies (Some types) there any = rw any refl
 
-typed_unfilled : (bodies : List ℕ) (types : Option (List ℕ)) → is_some types ≡ true → list_any is_unused (listed types) ≡ false
-    → (length bodies == bodies_len (listed types)) ≡ false → typed_record bodies types ≡ Err BodyLength
+typed_unfilled : (bodies : List ℕ) (types : Option (List ℕ)) → is_some types ≡ true → list_any is_unused (types_or_none types) ≡ false
+    → (length bodies == bodies_len (types_or_none types)) ≡ false → typed_record bodies types ≡ Err BodyLength
 typed_unfilled bodies None there none fits = cc
 typed_unfilled bodies (Some types) there none fits = rw (none, fits) refl
 
-typed_filled : (bodies : List ℕ) (types : Option (List ℕ)) → is_some types ≡ true → list_any is_unused (listed types) ≡ false
-    → (length bodies == bodies_len (listed types)) ≡ true → typed_record bodies types ≡ Ok (contents (listed types) bodies)
+typed_filled : (bodies : List ℕ) (types : Option (List ℕ)) → is_some types ≡ true → list_any is_unused (types_or_none types) ≡ false
+    → (length bodies == bodies_len (types_or_none types)) ≡ true → typed_record bodies types ≡ Ok (contents (types_or_none types) bodies)
 typed_filled bodies None there none fits = cc
 typed_filled bodies (Some types) there none fits = rw (none, fits) refl
 
@@ -134,7 +134,7 @@ pub filled_is : (types bodies : List ℕ) (survey : Survey) → option_map (surv
     → survey.fits ≡ true → IsFilled types bodies
 filled_is types bodies survey is fits =
     let says = said bodies (types_in types) survey is in
-    let same : length bodies ≡ bodies_len (listed (types_in types)) = eqb-true _ _ (sym says.fits ∙ fits) in
+    let same : length bodies ≡ bodies_len (types_or_none (types_in types)) = eqb-true _ _ (sym says.fits ∙ fits) in
     record { whole = says.there; full = sym same }
 
 length-contents : (types bodies : List ℕ) → length (contents types bodies) ≡ length types
@@ -147,4 +147,4 @@ pub filled_count : (types bodies : List ℕ) (survey : Survey) → option_map (s
 unfolding columns_in
 filled_count types bodies survey is =
     let says = said bodies (types_in types) survey is in
-    says.columns ∙ sym (length-contents (listed (types_in types)) bodies)
+    says.columns ∙ sym (length-contents (types_or_none (types_in types)) bodies)

@@ -35,18 +35,18 @@ bodies_len [] = 0
 bodies_len (type ∷ types) = body_len type + bodies_len types
 
 -- the types, or none where they don't read
-abbrev pub listed : Option (List ℕ) → List ℕ
-listed None = []
-listed (Some types) = types
+abbrev pub types_or_none : Option (List ℕ) → List ℕ
+types_or_none None = []
+types_or_none (Some types) = types
 
 -- what the columns hold whose types and bodies stand in these bytes
 unfoldable pub columns_in : List ℕ → List ℕ → List Content
-columns_in types bodies = contents (listed (types_in types)) bodies
+columns_in types bodies = contents (types_or_none (types_in types)) bodies
 
 -- the types read, and their bodies are exactly these bytes
 pub record IsFilled (types bodies : List ℕ) : Type 0 where
   pub whole : is_some (types_in types) ≡ true
-  pub full : bodies_len (listed (types_in types)) ≡ length bodies
+  pub full : bodies_len (types_or_none (types_in types)) ≡ length bodies
 
 -- what types say: how many there are, whether one is unused, and whether their bodies have so many bytes
 abbrev pub survey_of : ℕ → List ℕ → Survey

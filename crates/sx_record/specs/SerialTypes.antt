@@ -17,18 +17,18 @@ unfoldable pub is_unused : ℕ → Bool
 is_unused type = type == 10 || type == 11
 
 -- a number of one sign bit and others below it in two's complement, where `half` is the sign bit's worth
-abbrev pub signed : ℕ → ℕ → ℤ
-signed half number = if nat_lt number half then pos number else negsuc (half + half - suc number)
+abbrev pub twos_complement : ℕ → ℕ → ℤ
+twos_complement half number = if nat_lt number half then pos number else negsuc (half + half - suc number)
 
 -- the integers of 1, 2, 3, 4, 6 and 8 bytes
 unfoldable pub integer_of : ℕ → List ℕ → ℤ
 integer_of type body =
-    if type == 1 then signed (2 ^ 7) (byte_at body 0)
-    else (if type == 2 then signed (2 ^ 15) (two_bytes_at body 0)
-    else (if type == 3 then signed (2 ^ 23) (three_bytes_at body 0)
-    else (if type == 4 then signed (2 ^ 31) (word_at body 0)
-    else (if type == 5 then signed (2 ^ 47) (six_bytes_at body 0)
-    else signed (2 ^ 63) (eight_bytes_at body 0)))))
+    if type == 1 then twos_complement (2 ^ 7) (byte_at body 0)
+    else (if type == 2 then twos_complement (2 ^ 15) (two_bytes_at body 0)
+    else (if type == 3 then twos_complement (2 ^ 23) (three_bytes_at body 0)
+    else (if type == 4 then twos_complement (2 ^ 31) (word_at body 0)
+    else (if type == 5 then twos_complement (2 ^ 47) (six_bytes_at body 0)
+    else twos_complement (2 ^ 63) (eight_bytes_at body 0)))))
 
 -- what a column of this type with this body holds
 unfoldable pub content_in : ℕ → List ℕ → Content

@@ -1,7 +1,7 @@
 //! Serial types of columns.
 ghost use Rattle.std.specs.Prelude.{◌≡◌, ◌*◌, ◌^◌, ◌<◌, ◌≤◌, length};
 ghost use Rattle.sx_record.specs.Content.{content_of};
-ghost use Rattle.sx_record.specs.SerialTypes.{body_len, is_unused, signed, integer_of, content_in};
+ghost use Rattle.sx_record.specs.SerialTypes.{body_len, is_unused, twos_complement, integer_of, content_in};
 
 use crate::value::Value;
 use sx_bytes::{be16, be24, be32, be48, be64};
@@ -57,20 +57,20 @@ fn integer_of(serial_type: u64, body: &[u8]) -> i64
     ensures { result ≡ integer_of serial_type body.now }
 {
     match serial_type {
-        1 => signed(u64::from(body[0]), 1 << 7),
-        2 => signed(u64::from(be16(body, 0)), 1 << 15),
-        3 => signed(u64::from(be24(body, 0)), 1 << 23),
-        4 => signed(u64::from(be32(body, 0)), 1 << 31),
-        5 => signed(be48(body, 0), 1 << 47),
+        1 => twos_complement(u64::from(body[0]), 1 << 7),
+        2 => twos_complement(u64::from(be16(body, 0)), 1 << 15),
+        3 => twos_complement(u64::from(be24(body, 0)), 1 << 23),
+        4 => twos_complement(u64::from(be32(body, 0)), 1 << 31),
+        5 => twos_complement(be48(body, 0), 1 << 47),
         _ => be64(body, 0).cast_signed(),
     }
 }
 
 /// The signed number that this one stands for in two's complement, where `half` is what the sign bit is worth.
-fn signed(number: u64, half: u64) -> i64
+fn twos_complement(number: u64, half: u64) -> i64
     requires small { half ≤ 2 ^ 47 }
     requires fits { number < 2 * half }
-    ensures { result ≡ signed half number }
+    ensures { result ≡ twos_complement half number }
 {
     if number < half {
         number as i64
