@@ -1,8 +1,8 @@
 //! Chains of equal numbers.
-ghost use Rattle.std.specs.Prelude.{◌≡◌, ℕ, ◌+◌, ◌^◌, ◌<◌, ◌≤◌, ◌==◌, List, length, min, count_by, IfOk, IfSome, slice_index};
-ghost use Rattle.sx_base.specs.Places.{last_place};
+ghost use Rattle.std.specs.Prelude.{◌≡◌, ℕ, ◌+◌, ◌^◌, ◌<◌, ◌≤◌, ◌==◌, List, Some, length, min, count_by, IfOk, IfSome, slice_index};
+ghost use Rattle.sx_base.specs.Places.{first_place, last_place};
 ghost use Rattle.sx_chain.specs.Newest.{has_number};
-ghost use Rattle.sx_chain.specs.Heads.{place_below};
+ghost use Rattle.sx_chain.specs.Heads.{AreDistinct, place_below};
 ghost use Rattle.sx_chain.specs.Links.{numbers_of, links_of, fars_of, IsFar, IsSkewed};
 
 use crate::heads::{distinct, head_at, known_rank, put_end, rank_of};
@@ -108,6 +108,38 @@ impl Chains {
             found = self.nodes[place as usize].follow(before, steps);
         }
         None
+    }
+
+    /// The numbers of the list in rising order, each once.
+    pub fn numbers(&self) -> &[u32]
+        ensures { AreDistinct self.now result.now }
+    {
+        &self.distinct
+    }
+
+    /// The least place at which `page` stands in the list, and `None` exactly where it doesn't.
+    ///
+    /// Places count from 0. The cost is that of a binary search and of the links from the greatest place to the least by
+    /// their far ends, about log n of them for n items of that number. The call takes no memory.
+    pub fn oldest(&self, page: u32) -> Option<u32>
+        ensures { result ≡ first_place (has_number self.now page) (length self.now) }
+    {
+        match self.head(page) {
+            Some(place) => Some(self.oldest_before(place)),
+            None => None,
+        }
+    }
+
+    // The oldest item of the number that stands at a place.
+    fn oldest_before(&self, place: u32) -> u32
+        requires { place < length self.now }
+        ensures { Some result ≡ first_place (has_number self.now (slice_index self.now place)) (length self.now) }
+    {
+        let mut oldest = place;
+        while let Some(further) = self.nodes[oldest as usize].further() {
+            oldest = further;
+        }
+        oldest
     }
 
     // The greatest place of a number.

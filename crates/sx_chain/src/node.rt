@@ -1,5 +1,5 @@
 //! An item of the list, with its link.
-ghost use Rattle.std.specs.Prelude.{◌≡◌, ◌+◌, ◌-◌, ◌^◌, ◌<◌, IfSome};
+ghost use Rattle.std.specs.Prelude.{◌≡◌, ◌+◌, ◌-◌, ◌^◌, ◌<◌, ◌==◌, if◌then◌else◌, None, Some, IfSome};
 ghost use Rattle.sx_chain.specs.Heads.{place_below};
 ghost use Rattle.sx_chain.specs.Links.{followed};
 
@@ -50,6 +50,13 @@ impl Node {
             Some(place) => Some(if before <= self.far { self.far } else { place }),
             None => None,
         }
+    }
+
+    /// The far item, where there is an item before this one.
+    pub fn further(&self) -> Option<u32>
+        ensures { result ≡ (if self.now.end == 0 then None else Some self.now.far) }
+    {
+        if self.end == 0 { None } else { Some(self.far) }
     }
 }
 

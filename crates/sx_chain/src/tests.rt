@@ -56,6 +56,16 @@ fn least_and_greatest_numbers(rt: HostRuntime) -> Result<(), Fail> {
 }
 
 #[test]
+fn oldest_of_a_number(rt: HostRuntime) -> Result<(), Fail> {
+    let chains = build(rt.alloc(), &[2, 2, 1, 2])?;
+    assert_eq!(rt; chains.numbers(), [1, 2].as_slice());
+    assert_eq!(rt; chains.oldest(2), Some(0));
+    assert_eq!(rt; chains.oldest(1), Some(2));
+    assert_eq!(rt; chains.oldest(5), None);
+    Ok(())
+}
+
+#[test]
 fn a_million_numbers(rt: HostRuntime) -> Result<(), Fail> {
     let numbers: Vec<u32> = (0..1_000_000u32).collect(rt.alloc())?;
     assert_eq!(rt; numbers.len(), 1_000_000);
@@ -78,5 +88,6 @@ fn one_number_a_million_times(rt: HostRuntime) -> Result<(), Fail> {
     ] {
         assert_eq!(rt; newest(&chains, 7, before), place, "before {before}");
     }
+    assert_eq!(rt; chains.oldest(7), Some(0));
     Ok(())
 }

@@ -58,7 +58,7 @@ rises_lower least below (image ∷ images) low rises = (omega (arith, rises.0), 
 less_key : (a b : ℕ) → nat_cmp a b ≡ Less → a + 1 ≤ b
 less_key a b less = grind (arith, nat_tests)
 
-above : (key : ℕ) (keys : List ℕ) → AllByRecursion (λ k. nat_cmp key k ≡ Less) keys → AllByRecursion (λ k. key + 1 ≤ k) keys
+pub above : (key : ℕ) (keys : List ℕ) → AllByRecursion (λ k. nat_cmp key k ≡ Less) keys → AllByRecursion (λ k. key + 1 ≤ k) keys
 above key [] less = tt
 above key (k ∷ keys) less = (less_key key k less.0, above key keys less.1)
 

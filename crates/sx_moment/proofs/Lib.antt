@@ -11,3 +11,4 @@ pub mod Lie
 pub mod Turned
 pub mod Seen
 pub mod Counted
+pub mod Firsts

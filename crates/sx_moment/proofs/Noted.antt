@@ -31,10 +31,6 @@ note_step test counts page i number is =
     ∙ ap (λ b. or_first (first_place test i) (cond b (Some i) None)) (sym is)
     ∙ sym (first_place-more test i)
 
-pub note_slot : (case : Gathered) (i number : ℕ) → noted true (slot_at case i).page i (first_place (has_number (slot_pages case) number) i) number ≡ first_place (has_number (slot_pages case) number) (i + 1)
-note_slot case i number =
-    note_step (has_number (slot_pages case) number) true (slot_at case i).page i number (ap (λ page. page == number) (page_of_slot case i))
-
 -- ---- marks
 
 middle : (a b c : Bool) → b ≡ false → (a && b && c) ≡ false

@@ -15,3 +15,13 @@ images_of keeps (entry ∷ entries) = (if keeps entry.0 then (record { page = en
 -- the pages that have something in a map
 abbrev pub has_key : (ℕ → Option ℕ) → ℕ → Bool
 has_key known number = is_some (known number)
+
+-- a page with its first image, if it has one
+abbrev pub image_with : ℕ → Option ℕ → List FirstImage
+image_with page None = []
+image_with page (Some first) = record { page = page; first = first } ∷ []
+
+-- of a list of pages those that have a first image, each with it
+abbrev pub firsts_of : (ℕ → Option ℕ) → List ℕ → List FirstImage
+firsts_of first [] = []
+firsts_of first (page ∷ pages) = image_with page (first page) ++ firsts_of first pages

@@ -18,7 +18,7 @@ ghost use Rattle.sx_moment.specs.Counts.{AreCounts};
 use crate::counts::counts_at_commits;
 use crate::evidence::Evidence;
 use crate::first_images::FirstImages;
-use crate::gathering::{first_records, first_slots, marked_images, past_images, same_pages};
+use crate::gathering::{first_records, marked_images, past_of_records, past_of_slots, same_pages};
 use crate::marks::Marks;
 use crate::newest_slot::newest;
 use crate::origin::Origin;
@@ -73,16 +73,14 @@ impl<'a> Case<'a> {
     {
         let sources = Sources::read(alloc, header, evidence)?;
         let same = same_pages(alloc, &sources)?;
-        let slots = first_slots(alloc, &sources)?;
-        let marks = marked_images(alloc, &slots, &same)?;
-        let past = past_images(alloc, &slots, &sources)?;
-        drop(slots);
+        let frames = chain_slots(alloc, &sources)?;
+        let marks = marked_images(alloc, &same, &frames)?;
         drop(same);
+        let past = past_of_slots(alloc, &frames, &sources)?;
+        let records = first_records(alloc, &sources)?;
+        let past_records = past_of_records(alloc, &records, &sources)?;
         let past_counts = counts_at_commits(alloc, &sources, &past)?;
         let mark_counts = counts_at_commits(alloc, &sources, &marks)?;
-        let records = first_records(alloc, &sources)?;
-        let past_records = past_images(alloc, &records, &sources)?;
-        let frames = chain_slots(alloc, &sources)?;
         Ok(Case {
             sources,
             frames,

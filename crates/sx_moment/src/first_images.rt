@@ -37,6 +37,7 @@ impl FirstImages {
     pub fn len(&self) -> usize
         ensures value { result ≡ length self.now }
         ensures few { result < 2 ^ 63 }
+        ensures rise { Rises 1 self.now }
     {
         self.items.len()
     }

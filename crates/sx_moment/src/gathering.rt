@@ -2,6 +2,7 @@
 ghost use Rattle.std.specs.Prelude.{◌≡◌, ℕ, ◌<◌, ◌≤◌, ◌==◌, ◌||◌, ◌&&◌, Bool, not, if◌then◌else◌, None, [], ◌∷◌, ◌++◌, length, map, is_some, IfOk, OnOk};
 ghost use Rattle.std.specs.Ordering.{nat_cmp};
 ghost use Rattle.std.specs.BTreeMap.{get};
+ghost use Rattle.sx_base.specs.Places.{first_place};
 ghost use Rattle.sx_chain.specs.Newest.{has_number};
 ghost use Rattle.sx_journal.specs.Entries.{is_good_class};
 ghost use Rattle.sx_moment.specs.Gathered.{page_count};
@@ -9,7 +10,7 @@ ghost use Rattle.sx_moment.specs.Views.{lock_in, slot_pages};
 ghost use Rattle.sx_moment.specs.Marks.{is_same};
 ghost use Rattle.sx_moment.specs.Firsts.{first_in};
 ghost use Rattle.sx_moment.specs.Images.{first_slot, first_record, past_only, is_in_file, is_marked};
-ghost use Rattle.sx_moment.specs.Gathering.{noted, images_of, has_key};
+ghost use Rattle.sx_moment.specs.Gathering.{noted, images_of, image_with, firsts_of, has_key};
 
 use crate::first_image::FirstImage;
 use crate::first_images::FirstImages;
@@ -17,6 +18,7 @@ use crate::sources::Sources;
 use std::alloc::{AllocError, Global};
 use std::collections::BTreeMap;
 use sx_base::Class;
+use sx_chain::Chains;
 
 // Notes that the image `i` holds the page, where it counts and none was noted before.
 fn note(found: &mut BTreeMap<u32, u32>, counts: bool, page: u32, i: u32) -> Result<(), AllocError>
@@ -27,17 +29,6 @@ fn note(found: &mut BTreeMap<u32, u32>, counts: bool, page: u32, i: u32) -> Resu
     }
     found.insert(page, i)?;
     Ok(())
-}
-
-/// The first slot of each page. The cost is a look-up for each slot.
-pub fn first_slots(alloc: Global, sources: &Sources<'_>) -> Result<BTreeMap<u32, u32>, AllocError>
-    ensures { IfOk result (λ found. (number : ℕ) → get nat_cmp found number ≡ first_slot sources.now number) }
-{
-    let mut found = BTreeMap::new(alloc);
-    for i in 0..sources.slots() {
-        note(&mut found, true, sources.slot(i).page, i)?;
-    }
-    Ok(found)
 }
 
 /// The first Good record of each page. The cost is a look-up for each record.
@@ -104,8 +95,39 @@ fn numbered_images(alloc: Global, found: &BTreeMap<u32, u32>) -> Result<FirstIma
     Ok(FirstImages::new(items))
 }
 
-/// Of the pages of a map, those past the end of the file that can have a view. The cost is that of going over the map.
-pub fn past_images(
+/// The pages past the end of the file that can have a view and that slots hold, each with its first slot. The cost is a
+/// look-up for each page.
+pub fn past_of_slots(
+    alloc: Global,
+    frames: &Chains,
+    sources: &Sources<'_>,
+) -> Result<FirstImages, AllocError>
+    requires { frames.now ≡ slot_pages sources.now }
+    ensures { IfOk result (λ images. (number : ℕ) → first_in images number ≡ past_only sources.now (first_slot sources.now) number) }
+{
+    let pages = frames.numbers();
+    let mut items = Vec::new(alloc);
+    for i in 0..pages.len() {
+        push_first(&mut items, pages[i], past_slot(frames, sources, pages[i]))?;
+    }
+    Ok(FirstImages::new(items))
+}
+
+// The first slot of a page past the end of the file that can have a view.
+fn past_slot(frames: &Chains, sources: &Sources<'_>, page: u32) -> Option<u32>
+    requires { frames.now ≡ slot_pages sources.now }
+    ensures { result ≡ past_only sources.now (first_slot sources.now) page }
+{
+    if sources.page_count() < page && page != sources.lock_page() {
+        frames.oldest(page)
+    } else {
+        None
+    }
+}
+
+/// Of the first Good records of pages, those past the end of the file that can have a view. The cost is that of going
+/// over the map.
+pub fn past_of_records(
     alloc: Global,
     found: &BTreeMap<u32, u32>,
     sources: &Sources<'_>,
@@ -121,21 +143,32 @@ pub fn past_images(
     Ok(FirstImages::new(items))
 }
 
-/// Of the pages of a map, those that a list has too. The cost is a look-up for each.
+/// The pages of a list, each with its first slot. The cost is a look-up for each.
 pub fn marked_images(
     alloc: Global,
-    found: &BTreeMap<u32, u32>,
     same: &FirstImages,
+    frames: &Chains,
 ) -> Result<FirstImages, AllocError>
-    requires { first_in same.now 0 ≡ None }
     ensures { IfOk result (λ images. (number : ℕ) → first_in images number
-        ≡ (if has_key (first_in same.now) number then get nat_cmp found.now number else None)) }
+        ≡ (if has_key (first_in same.now) number then first_place (has_number frames.now number) (length frames.now) else None)) }
 {
     let mut items = Vec::with_capacity(alloc, same.len())?;
-    for (page, first) in found.iter() {
-        push_if(&mut items, same.find(*page).is_some(), *page, *first)?;
+    for i in 0..same.len() {
+        let page = same.at(i).page;
+        push_first(&mut items, page, frames.oldest(page))?;
     }
     Ok(FirstImages::new(items))
+}
+
+// Puts a page with its first image behind the others, where it has one.
+fn push_first(items: &mut Vec<FirstImage>, page: u32, first: Option<u32>) -> Result<(), AllocError>
+    ensures { OnOk result (items.new.items ≡ items.old.items ++ image_with page first) }
+{
+    match first {
+        Some(first) => items.push(FirstImage { page, first })?,
+        None => {}
+    }
+    Ok(())
 }
 
 // Puts a page with its first image behind the others, where it is kept.

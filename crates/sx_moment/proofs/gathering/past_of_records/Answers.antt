@@ -2,7 +2,7 @@ use Rattle.std.proofs.Common.{◌≡◌, [], sym, ap, ◌∙◌, subst, rules}
 use Rattle.sx_moment.specs.Firsts.{Rises, first_in}
 use Rattle.sx_moment.specs.Images.{is_past}
 use Rattle.sx_moment.proofs.Images.{images_all, images_rise, images_found}
-use Rattle.sx_moment.proofs.gathering.past_images.Goals as goal
+use Rattle.sx_moment.proofs.gathering.past_of_records.Goals as goal
 
 pub new-requires : goal.new-requires
 new-requires c =
