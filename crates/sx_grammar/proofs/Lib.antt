@@ -11,3 +11,4 @@ pub mod ZeroLemmas
 pub mod ChosenLemmas
 pub mod StartLemmas
 pub mod LookLemmas
+pub mod TwoBytes

@@ -1,5 +1,5 @@
 -- Where a look at the first four bytes rules every form out.
-use Rattle.std.proofs.Common.{◌≡◌, inl, inr, if◌then◌else◌, nat_le, ℕ, suc, ◌+◌, ◌-◌, ◌<◌, ◌≤◌, Bool, true, false, ◌&&◌, ◌||◌, nat_lt, List, [], ◌∷◌, ◌++◌, length, drop, slice_index, Option, Some, None, is_none, refl, sym, ap, ◌∙◌, append_assoc, arith, length-append}
+use Rattle.std.proofs.Common.{◌≡◌, inl, inr, if◌then◌else◌, nat_le, ℕ, suc, ◌+◌, ◌-◌, ◌/◌, ◌<◌, ◌≤◌, Bool, true, false, ◌&&◌, ◌||◌, nat_lt, List, [], ◌∷◌, ◌++◌, length, drop, slice_index, Option, Some, None, is_none, refl, sym, ap, ◌∙◌, append_assoc, arith, length-append}
 use Rattle.std.proofs.lemmas.Bool.Decides.{nat_tests}
 use Rattle.sx_bytes.specs.Varints.{IsVarint}
 use Rattle.sx_bytes.proofs.VarintLemmas.{short_byte}
@@ -9,7 +9,7 @@ use Rattle.sx_grammar.specs.declared.shape.ShapeKey.{ShapeKey}
 use Rattle.sx_grammar.specs.Shorts.{short_field, IsShort, AreTypes}
 use Rattle.sx_grammar.specs.Sightings.{Sighting}
 use Rattle.sx_grammar.specs.Records.{IsHeader}
-use Rattle.sx_grammar.specs.Full.{full_at, body_of_byte, is_no_header, is_no_cell}
+use Rattle.sx_grammar.specs.Full.{full_at, least_body, is_no_header, is_no_cell}
 use Rattle.sx_grammar.specs.Forms.{IsFull, Begins}
 use Rattle.sx_grammar.specs.Clips.{Setting, cut_in}
 use Rattle.sx_grammar.specs.Choice.{accepted_at}
@@ -60,16 +60,20 @@ first_type (type ∷ types) text more bytes spelled some parts there low =
     let is = byte_number bytes first behind type spelled.3 whole there low in
     omega (arith, ap body_len is.value_is)
 
--- what a look at it gives is no more than it has
+-- no more than the body has
+pub byte_body : (type : ℕ) → (type - 12) / 2 ≤ body_len type
+unfolding body_len
+byte_body type = grind (arith, nat_tests)
+
 looked_by : (type body all : ℕ) (low : Bool) → nat_lt type 128 ≡ low → (type < 128 → body ≤ all) → (if low then body else 0) ≤ all
 looked_by type body all true is fits = fits (grind (arith, nat_tests))
 looked_by type body all false is fits = omega arith
 
-least_body : (types text more bytes : List ℕ) → AreTypes types text → 0 < length types → bytes ≡ text ++ more → 0 < length bytes
-    → body_of_byte (slice_index bytes 0) ≤ bodies_len types
-least_body types text more bytes spelled some parts there =
-    looked_by (slice_index bytes 0) (body_len (slice_index bytes 0)) (bodies_len types) (nat_lt (slice_index bytes 0) 128) refl
-    (λ low. first_type types text more bytes spelled some parts there low)
+least_first : (types text more bytes : List ℕ) → AreTypes types text → 0 < length types → bytes ≡ text ++ more → 0 < length bytes
+    → least_body (slice_index bytes 0) ≤ bodies_len types
+least_first types text more bytes spelled some parts there =
+    looked_by (slice_index bytes 0) ((slice_index bytes 0 - 12) / 2) (bodies_len types) (nat_lt (slice_index bytes 0) 128) refl
+    (λ low. let body = byte_body (slice_index bytes 0) in omega (arith, body, first_type types text more bytes spelled some parts there low))
 
 types_there : (types text : List ℕ) → AreTypes types text → 0 < length text → 0 < length types
 types_there [] text spelled some = absurd (omega (arith, ap length spelled))
@@ -77,7 +81,7 @@ types_there (type ∷ types) text spelled some = omega arith
 
 -- the first two, where the first has one byte and more bytes of types follow it
 two_bodies : (types text more bytes : List ℕ) → AreTypes types text → 2 ≤ length text → bytes ≡ text ++ more → slice_index bytes 0 < 128
-    → body_len (slice_index bytes 0) + body_of_byte (slice_index bytes 1) ≤ bodies_len types
+    → least_body (slice_index bytes 0) + least_body (slice_index bytes 1) ≤ bodies_len types
 two_bodies [] text more bytes spelled long parts low = absurd (omega (arith, ap length spelled))
 two_bodies (type ∷ types) text more bytes spelled long parts low =
     let first = spelled.0 in
@@ -91,15 +95,17 @@ two_bodies (type ∷ types) text more bytes spelled long parts low =
     let joined = ap length whole ∙ length-append first behind in
     let some : 0 < length spelled.1 = omega (arith, left, after, joined) in
     let inside : 0 < length (drop 1 bytes) = omega (arith, ap length is.rest_is, length-append spelled.1 more) in
-    let next = least_body types spelled.1 more (drop 1 bytes) spelled.5 (types_there types spelled.1 spelled.5 some) (sym is.rest_is) inside in
-    let same = ap body_of_byte (second bytes 0) in
-    omega (arith, ap body_len is.value_is, next, same)
+    let next = least_first types spelled.1 more (drop 1 bytes) spelled.5 (types_there types spelled.1 spelled.5 some) (sym is.rest_is) inside in
+    let same = ap least_body (second bytes 0) in
+    let here : least_body (slice_index bytes 0) ≤ body_len (slice_index bytes 0)
+    = looked_by (slice_index bytes 0) ((slice_index bytes 0 - 12) / 2) (body_len (slice_index bytes 0)) (nat_lt (slice_index bytes 0) 128) refl (λ l. byte_body (slice_index bytes 0)) in
+    omega (arith, ap body_len is.value_is, next, same, here)
 
 -- what a whole cell's first bytes say, where its payload and its rowid have one byte each
 record SaysCell (payload header first second : ℕ) : Type 0 where
   pub least : 2 ≤ header
-  pub one : header + body_of_byte first ≤ payload
-  pub two : first < 128 → 3 ≤ header → header + body_of_byte first + body_of_byte second ≤ payload
+  pub one : header + least_body first ≤ payload
+  pub two : first < 128 → 3 ≤ header → header + least_body first + least_body second ≤ payload
 
 -- the byte of a number that has only one
 one_low : (text more : List ℕ) (value : ℕ) → IsVarint text value → length text ≡ 1 → slice_index (text ++ more) 0 < 128
@@ -131,21 +137,17 @@ header_says payload header types_text types bodies more bytes typed whole small 
     let one = size_one header types_text types typed (omega arith) in
     let long : length header ≡ 1 + length types_text = omega (arith, ap length typed.parts, length-append typed.size_text types_text, one) in
     let there : 0 < length (drop 1 bytes) = omega (arith, ap length size.rest_is, length-append types_text behind) in
-    let body = least_body types types_text behind (drop 1 bytes) typed.spelled typed.some (sym size.rest_is) there in
-    let same = ap body_of_byte (second bytes 0) in
-    let also = ap body_of_byte (second bytes 1) in
+    let body = least_first types types_text behind (drop 1 bytes) typed.spelled typed.some (sym size.rest_is) there in
+    let same = ap least_body (second bytes 0) in
+    let also = ap least_body (second bytes 1) in
     record {
       least = omega (arith, size.value_is, long, some);
       one = omega (arith, size.value_is, body, same);
       two = λ (low : slice_index bytes 1 < 128) (room : 3 ≤ slice_index bytes 0).
           let first : slice_index (drop 1 bytes) 0 < 128 = omega (arith, second bytes 0) in
           let both = two_bodies types types_text behind (drop 1 bytes) typed.spelled (omega (arith, size.value_is, long)) (sym size.rest_is) first in
-          let byte = of_byte (slice_index (drop 1 bytes) 0) first in
-          omega (arith, size.value_is, both, same, also, byte);
+          omega (arith, size.value_is, both, same, also);
     }
-  where
-    of_byte : (type : ℕ) → type < 128 → body_of_byte type ≡ body_len type
-    of_byte type low = let is : nat_lt type 128 ≡ true = grind (arith, nat_tests) in rw is refl
 
 -- a whole cell whose payload and rowid have one byte each
 cell_says : (usable : ℕ) (bytes : List ℕ) (sighting : Sighting) → 1 < length bytes → slice_index bytes 0 < 128 → slice_index bytes 1 < 128
@@ -215,7 +217,7 @@ ruled_out usable bytes sighting looks begins =
     let low : slice_index bytes 0 < 128 = let is = all.next in grind (arith, nat_tests) in
     let next : slice_index bytes 1 < 128 = let is = all.third in grind (arith, nat_tests) in
     let says = cell_says usable bytes sighting (omega arith) low next begins in
-    let some : none ≡ false = has_place (slice_index bytes 0) header first second (body_of_byte first) (body_of_byte second) (nat_lt first 128) refl says.least says.one says.two in
+    let some : none ≡ false = has_place (slice_index bytes 0) header first second (least_body first) (least_body second) (nat_lt first 128) refl says.least says.one says.two in
     apart (sym all.last ∙ some)
   where
     apart : true ≡ false → ⊥
@@ -237,8 +239,3 @@ pub looked_at : (usable : ℕ) (shapes : List ShapeKey) (setting : Setting) (byt
     → accepted_at usable shapes setting bytes ≡ None
 looked_at usable shapes setting bytes least cell cut =
     accepted_none usable shapes setting bytes (no_cell usable bytes least cell) (none_of (cut_in setting bytes) cut)
-
--- the body of a type of one byte
-pub byte_body : (type : ℕ) → type < 128 → body_len type < 128
-unfolding body_len
-byte_body type low = grind (arith, nat_tests)

@@ -1,10 +1,9 @@
 -- A cell of a table leaf that still stands whole, read from its front.
-use Rattle.std.specs.Prelude.{ℕ, ◌+◌, ◌-◌, ◌==◌, Bool, true, false, ◌&&◌, ◌||◌, nat_le, nat_lt, if◌then◌else◌, List, length, take, drop, slice_index, Option, Some, None}
+use Rattle.std.specs.Prelude.{ℕ, ◌+◌, ◌-◌, ◌/◌, ◌==◌, Bool, true, false, ◌&&◌, ◌||◌, nat_le, nat_lt, if◌then◌else◌, List, length, take, drop, slice_index, Option, Some, None}
 use Rattle.std.specs.Int.{w64, cast_signed}
 use Rattle.sx_base.specs.Bytes.{word_at}
 use Rattle.sx_cell.specs.declared.cell.Kind.TheVariants.{TableLeaf}
 use Rattle.sx_cell.specs.Local.{longest_local, local_of}
-use Rattle.sx_record.specs.SerialTypes.{body_len}
 use Rattle.sx_grammar.specs.declared.form.Form.TheVariants.{Full}
 use Rattle.sx_grammar.specs.Shorts.{◌>>=◌, short_field}
 use Rattle.sx_grammar.specs.Sightings.{Sighting, whole, columns_in}
@@ -56,9 +55,9 @@ full_at usable bytes = do
 
 -- ---- a look at the first bytes
 
--- the bytes of the body of a type of one byte; a longer one isn't looked at
-abbrev pub body_of_byte : ℕ → ℕ
-body_of_byte type = if nat_lt type 128 then body_len type else 0
+-- no more bytes than the body of a type of one byte has: those of a text or a blob; a longer type isn't looked at
+abbrev pub least_body : ℕ → ℕ
+least_body type = if nat_lt type 128 then (type - 12) / 2 else 0
 
 -- a header of such a size with such types has no place in so small a payload: the second type is looked at where the first
 -- has one byte and the header has room for it
@@ -66,8 +65,8 @@ abbrev pub is_no_header : ℕ → ℕ → ℕ → ℕ → Bool
 is_no_header payload header first second =
     nat_lt header 2
     || (nat_lt payload header
-    || (nat_lt payload (header + body_of_byte first)
-    || (nat_lt first 128 && (nat_le 3 header && nat_lt payload (header + body_of_byte first + body_of_byte second)))))
+    || (nat_lt payload (header + least_body first)
+    || (nat_lt first 128 && (nat_le 3 header && nat_lt payload (header + least_body first + least_body second)))))
 
 -- the payload's length and the rowid have one byte each, and the record behind them has no place in the payload
 abbrev pub is_no_cell : List ℕ → Bool

@@ -1,7 +1,7 @@
 //! A cell of a table leaf that still stands whole.
 ghost use Rattle.std.specs.Prelude.{◌≡◌, ◌^◌, ◌<◌, ◌≤◌, length, IfSome};
 ghost use Rattle.sx_grammar.specs.Shorts.{Finds};
-ghost use Rattle.sx_grammar.specs.Full.{link_field, held_in, held_at, full_at, body_of_byte, is_no_header, is_no_cell};
+ghost use Rattle.sx_grammar.specs.Full.{link_field, held_in, held_at, full_at, least_body, is_no_header, is_no_cell};
 
 use crate::form::Form;
 use crate::opened::open_record;
@@ -9,7 +9,6 @@ use crate::reading::Reading;
 use crate::shorts::short_field;
 use sx_bytes::be32;
 use sx_cell::{Kind, local_len};
-use sx_record::body_len;
 
 /// The longest payload that a cell may have.
 const LONGEST_PAYLOAD: u64 = 2147483647;
@@ -25,45 +24,45 @@ struct Held<'a> {
 /// Whether a look at the first bytes shows that no whole cell begins there.
 ///
 /// Where the payload's length and the rowid have one byte each, as in runs of text, the header's size and the first two
-/// types tell it.
+/// types tell it. All tests are made, since which of them fails can't be foreseen in a run of text and a wrong guess of the
+/// processor costs more than they do.
 #[inline(always)]
 pub fn is_no_cell(bytes: &[u8]) -> bool
     ensures { result ≡ is_no_cell bytes.now }
 {
     bytes.len() > 4
-        && bytes[0] < 0x80
-        && bytes[1] < 0x80
-        && is_no_header(
-            u64::from(bytes[0]),
-            u64::from(bytes[2]),
-            u64::from(bytes[3]),
-            u64::from(bytes[4]),
-        )
+        && ((bytes[0] < 0x80)
+            & (bytes[1] < 0x80)
+            & is_no_header(
+                u32::from(bytes[0]),
+                u32::from(bytes[2]),
+                u32::from(bytes[3]),
+                u32::from(bytes[4]),
+            ))
 }
 
 /// Whether a header of such a size with such types has no place in a payload of so many bytes.
 #[inline(always)]
-fn is_no_header(payload: u64, header: u64, first: u64, second: u64) -> bool
+fn is_no_header(payload: u32, header: u32, first: u32, second: u32) -> bool
     requires header { header < 2 ^ 8 }
     ensures { result ≡ is_no_header payload header first second }
 {
-    header < 2
-        || payload < header
-        || payload < header + body_of_byte(first)
-        || (first < 0x80
-            && header >= 3
-            && payload < header + body_of_byte(first) + body_of_byte(second))
+    let one = header + least_body(first);
+    let two = one + least_body(second);
+    (header < 2)
+        | (payload < header)
+        | (payload < one)
+        | ((first < 0x80) & (header >= 3) & (payload < two))
 }
 
-/// The length of the body of a type of one byte; a longer one isn't looked at.
+/// At most so many bytes as the body of a type of one byte has; a longer type isn't looked at.
 #[inline(always)]
-#[tactic(auto, using(crate::proofs::LookLemmas::byte_body))]
-fn body_of_byte(serial_type: u64) -> u64
-    ensures value { result ≡ body_of_byte serial_type }
+fn least_body(serial_type: u32) -> u32
+    ensures value { result ≡ least_body serial_type }
     ensures small { result < 128 }
 {
     if serial_type < 0x80 {
-        body_len(serial_type)
+        serial_type.saturating_sub(12) / 2
     } else {
         0
     }

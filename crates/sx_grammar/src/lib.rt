@@ -16,7 +16,7 @@ mod shorts;
 mod shown;
 mod starts;
 
-pub use acceptance::{Ctx, accept};
+pub use acceptance::{Ctx, accept, is_ruled_out};
 pub use columns::Columns;
 pub use form::Form;
 pub use laws::{

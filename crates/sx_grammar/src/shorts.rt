@@ -1,14 +1,14 @@
 //! Numbers and serial types in their shortest spellings.
 ghost use Rattle.std.specs.Prelude.{◌≡◌, ◌^◌, ◌<◌, ◌≤◌, length, IfSome};
 ghost use Rattle.sx_bytes.specs.Varints.{short_at};
-ghost use Rattle.sx_grammar.specs.Shorts.{Finds, short_field, used_types, leaves, lowered, AreCounted};
+ghost use Rattle.sx_grammar.specs.Shorts.{Finds, short_field, two_bytes, used_types, leaves, lowered, AreCounted};
 
 use sx_record::{body_len, is_unused};
 
-/// The number at the front of `bytes` in its shortest spelling, and how many bytes that has: one of one byte is read without a
-/// call.
+/// The number at the front of `bytes` in its shortest spelling, and how many bytes that has: one of one or two bytes is read
+/// without a call.
 #[inline(always)]
-#[tactic(auto, using(crate::proofs::ShortLemmas::byte_at_front))]
+#[tactic(auto, using(crate::proofs::ShortLemmas::byte_at_front, crate::proofs::TwoBytes::two_at_front))]
 pub fn short_varint(bytes: &[u8]) -> Option<(u64, usize)>
     ensures value { result ≡ short_at bytes.now }
     ensures some { IfSome result (λ found. 0 < found.1) }
@@ -16,7 +16,23 @@ pub fn short_varint(bytes: &[u8]) -> Option<(u64, usize)>
 {
     match bytes {
         [byte, ..] if *byte < 0x80 => Some((u64::from(*byte), 1)),
+        [first, second, ..] if *second < 0x80 => two_bytes(u64::from(*first), u64::from(*second)),
         _ => sx_bytes::short_varint(bytes),
+    }
+}
+
+/// A number of two bytes, where one wouldn't do.
+#[inline(always)]
+fn two_bytes(first: u64, second: u64) -> Option<(u64, usize)>
+    requires goes_on { 128 ≤ first }
+    requires first { first < 256 }
+    requires second { second < 128 }
+    ensures { result ≡ two_bytes first second }
+{
+    if first == 128 {
+        None
+    } else {
+        Some(((first - 128) * 128 + second, 2))
     }
 }
 

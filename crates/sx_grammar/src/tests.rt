@@ -1,6 +1,8 @@
 //! The forms on bytes whose readings are known from outside.
-use crate::{Ctx, Form, Reading, ShapeKey, Shown, accept, next_start};
+use crate::{Ctx, Form, Reading, ShapeKey, Shown, accept, is_ruled_out, next_start};
+use std::alloc::{AllocError, Global};
 use std::process::Abort;
+use std::test::Fail;
 use sx_record::Value;
 
 const SHAPES: [ShapeKey; 2] = [
@@ -137,4 +139,112 @@ fn zeros_are_passed_over(rt: HostRuntime) {
     assert_eq!(rt; next_start(run, 5), 5);
     assert_eq!(rt; next_start(run, 8), 8);
     assert_eq!(rt; next_start(run, 12), 12);
+}
+
+/// The form at the front of these bytes and its length, at offset 400 of a page with so many usable bytes and under one plain
+/// shape.
+fn form_of(bytes: &[u8], usable: u32, columns: u32, block: bool) -> Option<(Form, u32)> {
+    if bytes.is_empty() || bytes.len() > 65536 || !(480..=65536).contains(&usable) || columns == 0 {
+        return None;
+    }
+    let shapes = [ShapeKey {
+        columns,
+        alias: false,
+    }];
+    let ctx = Ctx {
+        usable,
+        shapes: &shapes,
+    };
+    let ruled_out = is_ruled_out(bytes, 0, 400, block, &ctx);
+    let reading = accept(bytes, 0, 400, block, &ctx)?;
+    if ruled_out {
+        return None;
+    }
+    Some((reading.form(), reading.len()))
+}
+
+/// Bytes that end in so many of one value.
+fn padded(alloc: Global, front: &[u8], more: usize, value: u8) -> Result<Vec<u8>, AllocError> {
+    let mut bytes = front.to_vec(alloc)?;
+    for _ in 0..more {
+        bytes.push(value)?;
+    }
+    Ok(bytes)
+}
+
+#[test]
+fn payloads_of_every_size(rt: HostRuntime) -> Result<(), Fail> {
+    assert_eq!(rt; form_of(b"\x02", 512, 1, false), None);
+    assert_eq!(rt; form_of(&[0xff; 8], 512, 1, false), None);
+    assert_eq!(rt; form_of(b"\x00\x01\x00\x00\x00", 512, 1, false), None);
+    assert_eq!(rt; form_of(b"\x01\x01\x01\x00\x00", 512, 1, false), None);
+    // a blob of 442 bytes is the longest payload that stands whole in a cell of 480 usable bytes, and of 443 spills
+    let longest = padded(rt.alloc(), b"\x83\x3d\x01\x03\x87\x00", 442, 0x55)?;
+    assert_eq!(rt; form_of(&longest, 480, 1, false), Some((Form::Full, 448)));
+    let cut = padded(rt.alloc(), b"\x83\x3d\x01\x03\x87\x00", 441, 0x55)?;
+    assert_eq!(rt; form_of(&cut, 480, 1, false), None);
+    let spilled = padded(rt.alloc(), b"\x83\x3e\x01\x03\x87\x02", 442, 0x55)?;
+    assert_eq!(rt; form_of(&spilled, 480, 1, false), Some((Form::Full, 42)));
+    // the longest payload of all, and one that is too long
+    let all = padded(
+        rt.alloc(),
+        b"\x87\xff\xff\xff\x7f\x01\x06\x8f\xff\xff\xff\x7e",
+        60,
+        0x55,
+    )?;
+    assert_eq!(rt; form_of(&all, 512, 1, false), Some((Form::Full, 49)));
+    let more = padded(
+        rt.alloc(),
+        b"\x88\x80\x80\x80\x00\x01\x06\x90\x80\x80\x80\x00",
+        60,
+        0x55,
+    )?;
+    assert_eq!(rt; form_of(&more, 512, 1, false), None);
+    // a run of 65,536 bytes, and a payload that fills its page
+    let page = padded(rt.alloc(), b"\x83\xff\x5d\x01\x04\x87\xff\x3e", 65528, 0x55)?;
+    assert_eq!(rt; form_of(&page, 65536, 1, false), Some((Form::Full, 65505)));
+    Ok(())
+}
+
+#[test]
+fn clipped_cells_of_every_size(rt: HostRuntime) -> Result<(), Fail> {
+    // one NULL: sizes from 3 up, and a next block at its end or before it
+    assert_eq!(rt;
+        form_of(b"\0\0\0\x05\0", 512, 1, false),
+        Some((Form::Types(1), 5))
+    );
+    assert_eq!(rt;
+        form_of(b"\0\0\0\x04\0", 512, 1, false),
+        Some((Form::Lost(1, false), 4))
+    );
+    assert_eq!(rt; form_of(b"\0\0\0\x03\0", 512, 1, true), None);
+    assert_eq!(rt;
+        form_of(b"\0\0\xff\xff\0", 512, 1, true),
+        Some((Form::Types(1), 5))
+    );
+    assert_eq!(rt; form_of(b"\0\0\xff\xff\0", 512, 1, false), None);
+    assert_eq!(rt;
+        form_of(b"\x01\x95\0\x05\0", 512, 1, false),
+        Some((Form::Types(1), 5))
+    );
+    assert_eq!(rt; form_of(b"\x01\x94\0\x05\0", 512, 1, false), None);
+    // headers of 126, 127 and 128 bytes
+    let types = padded(rt.alloc(), b"\0\0\0\x81", 125, 0)?;
+    assert_eq!(rt;
+        form_of(&types, 512, 125, false),
+        Some((Form::Types(125), 129))
+    );
+    let types = padded(rt.alloc(), b"\0\0\0\x82", 126, 0)?;
+    assert_eq!(rt;
+        form_of(&types, 512, 126, false),
+        Some((Form::Types(126), 130))
+    );
+    let types = padded(rt.alloc(), b"\0\0\0\x83", 127, 0)?;
+    assert_eq!(rt; form_of(&types, 512, 127, false), None);
+    let types = padded(rt.alloc(), b"\0\0\x07\xd4", 2000, 0)?;
+    assert_eq!(rt; form_of(&types, 4096, 2000, false), None);
+    // a first type of two bytes
+    let tail = padded(rt.alloc(), b"\0\0\0\x41\x03\x81\x00", 58, 0x55)?;
+    assert_eq!(rt; form_of(&tail, 512, 1, false), Some((Form::Tail(0), 65)));
+    Ok(())
 }
