@@ -1,5 +1,5 @@
 -- What `map` prints: each byte of each page of a moment by its label, as runs; absent pages as one line; and totals.
-use Rattle.std.specs.Prelude.{ℕ, ◌*◌, ◌==◌, if◌then◌else◌, List, [], ◌∷◌, ◌++◌, map, codes, Option}
+use Rattle.std.specs.Prelude.{ℕ, ◌*◌, ◌==◌, if◌then◌else◌, List, [], ◌∷◌, ◌++◌, length, map, codes, Option}
 use Rattle.std.specs.Fmt.{decimal}
 use Rattle.std.specs.List.{flat_map}
 use Rattle.sx_base.specs.Labels.{is_owning, is_slack, is_fault}
@@ -7,7 +7,7 @@ use Rattle.sx_base.specs.Maps.{lock_page_of}
 use Rattle.sx_base.specs.declared.evidence.Span.{Span}
 use Rattle.sx_base.specs.declared.label.Label.{Label}
 use Rattle.sx_base.specs.declared.layout.Layout.{Layout}
-use Rattle.sx_closure.specs.Graph.{Graph}
+use Rattle.sx_closure.specs.Graph.{Graph, dead_links}
 use Rattle.sx_lines.specs.Labels.{label_word}
 use Rattle.sx_prov.specs.Labels.{labels_of}
 use Rattle.sx_prov.specs.Runs.{runs_of}
@@ -30,10 +30,10 @@ page_lines page labels = map (run_line page) (runs_of labels)
 unfoldable pub absent_line : ℕ → ℕ → List ℕ
 absent_line first last = codes "pages " ++ decimal first ++ codes "-" ++ decimal last ++ codes " absent"
 
--- the lines of present pages and of the absent ones between them
-abbrev pub stretch_lines : Graph → Layout → (ℕ → Option (List ℕ)) → Stretch → List (List ℕ)
-stretch_lines graph layout view (Absent first last) = absent_line first last ∷ []
-stretch_lines graph layout view (Present page) = page_lines page (labels_of graph layout view page)
+-- the lines of present pages and of the absent ones between them, where the labels of each page are these
+abbrev pub stretch_lines : (ℕ → List Label) → Stretch → List (List ℕ)
+stretch_lines labels (Absent first last) = absent_line first last ∷ []
+stretch_lines labels (Present page) = page_lines page (labels page)
 
 -- the last line: all bytes of the moment, those of each group of labels, and the dead links
 unfoldable pub totals_line : MapTotals → List ℕ
@@ -49,21 +49,21 @@ totals_line totals =
     ++ codes " dead "
     ++ decimal totals.dead
 
--- the totals of a moment of that size, with these dead links
-abbrev pub totals_of : Graph → Layout → (ℕ → Option (List ℕ)) → ℕ → ℕ → MapTotals
-totals_of graph layout view size dead = record {
+-- the totals of a moment of that size
+abbrev pub totals_of : Graph → Layout → (ℕ → Option (List ℕ)) → ℕ → MapTotals
+totals_of graph layout view size = record {
   bytes = size * layout.page_size;
   owned = bytes_of is_owning graph layout view size;
   slack = bytes_of is_slack graph layout view size;
   fault = bytes_of is_fault graph layout view size;
-  dead = dead;
+  dead = length (dead_links graph);
 }
 
--- all lines at a moment with a head
-abbrev pub map_lines : Graph → Layout → (ℕ → Option (List ℕ)) → ℕ → ℕ → List (List ℕ)
-map_lines graph layout view size dead =
-    flat_map (stretch_lines graph layout view) (stretches_of (lock_page_of layout.page_size) view size)
-    ++ totals_line (totals_of graph layout view size dead) ∷ []
+-- all lines at a moment of that size with a head
+abbrev pub map_lines : Graph → Layout → (ℕ → Option (List ℕ)) → ℕ → List (List ℕ)
+map_lines graph layout view size =
+    flat_map (stretch_lines (labels_of graph layout view)) (stretches_of (lock_page_of layout.page_size) view size)
+    ++ totals_line (totals_of graph layout view size) ∷ []
 
 -- the line of all pages of a moment without a head, where it has any
 unfoldable pub headless_line : ℕ → List ℕ

@@ -2,10 +2,12 @@
 #![tactic(auto)]
 
 mod headless;
+mod map_lines;
 mod page_map_lines;
 mod totals;
 
 pub use headless::HeadlessLines;
+pub use map_lines::MapLines;
 pub use page_map_lines::{PageMapLines, put_absent_line};
 pub use totals::{MapTotals, put_totals_line};
 

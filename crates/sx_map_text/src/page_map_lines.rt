@@ -1,34 +1,46 @@
 //! The lines of one page, and those of absent pages.
-ghost use Rattle.std.specs.Prelude.{◌≡◌, OnOk, string_bytes};
+ghost use Rattle.std.specs.Prelude.{◌≡◌, [], OnOk, string_bytes};
 ghost use Rattle.sx_lines.specs.Lines.{ended};
 ghost use Rattle.sx_map_text.specs.Map.{run_line, absent_line, page_lines};
 ghost use Rattle.sx_map_text.specs.Rest.{page_rest};
 
-use std::alloc::AllocError;
+use std::alloc::{AllocError, Global};
+use std::vec::IntoIter;
 use sx_base::{Label, Span};
 use sx_lines::{Lines, put_label};
-use sx_prov::{PageMap, Runs};
+use sx_prov::PageMap;
 
 /// The lines of `map` over one page that are still to come.
 #[derive(Drop)]
-pub struct PageMapLines<'m> {
+pub struct PageMapLines {
     page: u32,
-    runs: Runs<'m>,
+    runs: IntoIter<(Span, Label)>,
 }
 
-impl<'m> PageMapLines<'m> {
+impl PageMapLines {
     /// All lines over the page of this number with that map. The cost is the number of its runs.
-    pub fn new(page: u32, map: &'m PageMap) -> Self
-        ensures { page_rest result ≡ page_lines page map.now }
+    pub fn new(page: u32, map: PageMap) -> Self
+        ensures { page_rest result ≡ page_lines page map }
     {
         PageMapLines {
             page,
-            runs: map.runs(),
+            runs: map.into_runs(),
+        }
+    }
+
+    /// No lines.
+    pub(crate) fn none(alloc: Global) -> Self
+        ensures { page_rest result ≡ [] }
+    {
+        let runs: Vec<(Span, Label)> = Vec::new(alloc);
+        PageMapLines {
+            page: 0,
+            runs: runs.into_iter(),
         }
     }
 }
 
-impl Lines for PageMapLines<'_> {
+impl Lines for PageMapLines {
     ghost use Rattle.sx_map_text.specs.Rest.{page_rest};
 
     ghost lines = { page_rest };

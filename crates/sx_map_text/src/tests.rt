@@ -1,6 +1,7 @@
 //! The lines of a page, of absent pages and of a moment without a head.
 use super::*;
 use std::test::Fail;
+use sx_base::{Layout, Sheets};
 use sx_edge::Tray;
 use sx_lines::write_lines;
 use sx_prov::{PageKey, Standing, keyed_map};
@@ -15,9 +16,32 @@ fn a_page_is_told_by_its_runs(rt: HostRuntime) -> Result<(), Fail> {
     };
     let map = keyed_map(alloc, &page, key)?;
     let mut out = Tray::new(alloc, 1000, 1000)?;
-    let mut lines = PageMapLines::new(7, &map);
+    let mut lines = PageMapLines::new(7, map);
     assert_eq!(rt; write_lines(alloc, &mut lines, &mut out), Ok(()));
     let text = "page 7 0 4 link\npage 7 4 100 body\npage 7 104 396 tail\npage 7 500 12 reserved\n";
+    assert_eq!(rt; out.taken(), text.as_bytes());
+    Ok(())
+}
+
+#[test]
+fn pages_are_told_in_order_and_then_the_totals(rt: HostRuntime) -> Result<(), Fail> {
+    let alloc = rt.alloc();
+    let mut head = [0u8; 512];
+    head[100] = 13;
+    let sheets: [&[u8]; 3] = [&head, b"", b""];
+    let pages = Sheets::new(512, &sheets);
+    let layout = Layout {
+        page_size: 512,
+        usable: 512,
+        pages: 3,
+        pointer_maps: false,
+        free_head: 0,
+    };
+    let mut out = Tray::new(alloc, 1000, 1000)?;
+    let mut lines = MapLines::new(alloc, &pages, layout, &[3])?;
+    assert_eq!(rt; write_lines(alloc, &mut lines, &mut out), Ok(()));
+    let text =
+        "page 1 0 100 dbheader\npage 1 100 8 nodeheader\npage 1 108 404 gap\npages 2-3 absent\nbytes 1536 owned 108 slack 404 fault 1024 dead 1\n";
     assert_eq!(rt; out.taken(), text.as_bytes());
     Ok(())
 }

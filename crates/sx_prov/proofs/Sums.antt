@@ -76,7 +76,7 @@ absent_labels graph layout view page none =
     ap (λ b. map (λ at. cond b LockPage (view_label graph layout.usable page (view page) at)) (range_with_len 0 layout.page_size)) (not_lock (page == lock) (is_some (view page)) none)
     ∙ ap (λ v. map (λ at. view_label graph layout.usable page v at) (range_with_len 0 layout.page_size)) (not_held (page == lock) (view page) none)
 
-absent_count : (group : Label → Bool) (graph : Graph) (layout : Layout) (view : ℕ → Option (List ℕ)) (page : ℕ) → is_present (lock_page_of layout.page_size) view page ≡ false
+pub absent_count : (group : Label → Bool) (graph : Graph) (layout : Layout) (view : ℕ → Option (List ℕ)) (page : ℕ) → is_present (lock_page_of layout.page_size) view page ≡ false
     → count_by group (labels_of graph layout view page) ≡ layout.page_size * cond (group Absent) 1 0
 absent_count group graph layout view page none =
     ap (count_by group) (absent_labels graph layout view page none) ∙ constant_count group Absent 0 layout.page_size

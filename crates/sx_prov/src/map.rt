@@ -1,5 +1,6 @@
 //! The labels of the bytes of a page.
 ghost use Rattle.std.specs.Prelude.{◌≡◌, ◌-◌, ◌+◌, ◌<◌, ◌≤◌, ◌++◌, [], ◌∷◌, length, replicate, count_by, slice_get, slice_index_or, if◌then◌else◌, Some, IsTrue, ℕ, OnOk, OnErr};
+ghost use Rattle.std.specs.Vec.Iter.{into_iter_items};
 ghost use Rattle.sx_base.specs.declared.evidence.Span.{Span};
 ghost use Rattle.sx_base.specs.declared.label.Label.{Label};
 ghost use Rattle.sx_base.specs.Labels.{is_owning, is_slack, is_fault};
@@ -9,6 +10,7 @@ ghost use Rattle.sx_prov.specs.Runs.{runs_of};
 use crate::runs::Runs;
 use std::alloc::{AllocError, Global};
 use std::marker::Model;
+use std::vec::IntoIter;
 use sx_base::{Label, Span};
 
 /// How many bytes of a page are in each of the three groups of labels.
@@ -95,6 +97,14 @@ impl PageMap {
         ensures { result ≡ runs_of self.now }
     {
         Runs::new(self.runs.as_slice())
+    }
+
+    /// The same runs, of a map that isn't needed any more. Takes no memory.
+    pub fn into_runs(self) -> IntoIter<(Span, Label)>
+        ensures { into_iter_items result ≡ runs_of self }
+    {
+        let PageMap { runs, .. } = self;
+        runs.into_iter()
     }
 
     /// How many bytes of the page are in each group of labels. The cost is the number of runs.
