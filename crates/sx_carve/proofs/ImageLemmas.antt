@@ -2,10 +2,12 @@
 use Rattle.std.proofs.Common.{◌≡◌, ℕ, zero, suc, ◌+◌, ◌≤◌, List, [], ◌∷◌, ◌++◌, length, drop, Some, slice_get, refl, ap, ◌∙◌, arith, length-drop}
 use Rattle.sx_base.specs.declared.evidence.Part.{Part}
 use Rattle.sx_images.specs.declared.image.Image.{Image}
-use Rattle.sx_images.specs.Images.{Table, images_of}
+use Rattle.sx_base.specs.declared.evidence.Part.TheVariants.{Database, Wal, Journal}
+use Rattle.sx_images.specs.Images.{Table, images_of, length_of}
 use Rattle.sx_owned.specs.Owned.{Owned}
 use Rattle.sx_grammar.specs.declared.shape.ShapeKey.{ShapeKey}
 use Rattle.sx_carve.specs.Candidates.{carved_from, image_bytes, candidates_from}
+use Rattle.sx_carve.specs.Evidence.{AreOf}
 use Rattle.sx_carve.specs.Scan.{images_rest}
 
 none_from : (usable : ℕ) (shapes : List ShapeKey) (table : Owned) (page_size : ℕ) (files : Part → List ℕ) (number : ℕ) (images : List Image) → length images ≡ 0
@@ -40,3 +42,15 @@ pub one_image : (usable : ℕ) (shapes : List ShapeKey) (table : Owned) (files :
 one_image usable shapes table files images number image there =
     ap (candidates_from usable shapes table images.page_size files number) (drop_there (images_of images) number image there)
     ∙ one_from usable shapes table images.page_size files number image (drop (number + 1) (images_of images))
+
+-- ---- the files
+
+long_file : (files : Part → List ℕ) (table : Table) (part : Part) → AreOf files table → length_of table.lengths part ≡ length (files part)
+long_file files table Database are = are.database
+long_file files table Wal are = are.wal
+long_file files table Journal are = are.journal
+
+-- an image lies in its file's bytes
+pub in_file : (files : Part → List ℕ) (table : Table) (image : Image) (size : ℕ) (file : List ℕ) → AreOf files table → image.offset + table.page_size ≤ length_of table.lengths image.part
+    → size ≡ table.page_size → file ≡ files image.part → image.offset + size ≤ length file
+in_file files table image size file are lies same is = omega (arith, lies, same, ap length is, long_file files table image.part are)

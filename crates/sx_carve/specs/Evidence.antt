@@ -15,8 +15,10 @@ evidence_bytes database wal journal Wal = bytes_in wal
 evidence_bytes database wal journal Journal = bytes_in journal
 
 -- the images are those of files of these bytes: the lengths are theirs
-abbrev pub AreOf : (Part → List ℕ) → Table → Type 0
-AreOf files table = (part : Part) → length_of table.lengths part ≡ length (files part)
+pub record AreOf (files : Part → List ℕ) (table : Table) : Type 0 where
+  pub database : length_of table.lengths Database ≡ length (files Database)
+  pub wal : length_of table.lengths Wal ≡ length (files Wal)
+  pub journal : length_of table.lengths Journal ≡ length (files Journal)
 
 -- what is owned is told for these images, and for pages of their size, that many bytes of which can be used
 pub record Fit (usable : ℕ) (shapes : List ShapeKey) (table : Table) (owned : Owned) : Type 0 where

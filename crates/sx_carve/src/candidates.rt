@@ -163,7 +163,8 @@ fn file_of<'a>(evidence: &Evidence<'a>, part: Part) -> &'a [u8]
 /// The page of so many bytes that begins at an offset of a file.
 fn page_at(file: &[u8], offset: u64, size: u32) -> &[u8]
     requires { offset + size ≤ length file.now }
-    ensures { result.now ≡ take size (drop offset file.now) }
+    ensures bytes { result.now ≡ take size (drop offset file.now) }
+    ensures long { length result.now ≡ size }
 {
     let behind = file.split_at(offset as usize).1;
     behind.split_at(size as usize).0

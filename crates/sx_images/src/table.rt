@@ -37,6 +37,20 @@ impl Model for ImageTable {
 }
 
 impl ImageTable {
+    /// The size of an image in bytes.
+    pub fn page_size(&self) -> u32
+        ensures { result ≡ self.now.page_size }
+    {
+        self.page_size
+    }
+
+    /// The lengths of the three files.
+    pub fn lengths(&self) -> Lengths
+        ensures { result ≡ self.now.lengths }
+    {
+        self.lengths
+    }
+
     /// How many images there are.
     #[tactic(auto, unfolding(crate::specs::Images::images_of))]
     pub fn count(&self) -> u32
