@@ -1,6 +1,6 @@
 //! The images of the three files, by number.
 ghost use Rattle.std.specs.Prelude.{◌≡◌, ◌↔◌, ℕ, ◌+◌, ◌<◌, ◌≤◌, length, slice_get, Option, Some, None};
-ghost use Rattle.sx_images.specs.Images.{pages_of, images_of, Holds, IsBefore};
+ghost use Rattle.sx_images.specs.Images.{pages_of, images_of, length_of, Holds, IsBefore};
 ghost use Rattle.sx_images.specs.Search.{begun};
 
 use crate::image::Image;
@@ -37,6 +37,20 @@ impl Model for ImageTable {
 }
 
 impl ImageTable {
+    /// The size of an image in bytes.
+    pub fn page_size(&self) -> u32
+        ensures { result ≡ self.now.page_size }
+    {
+        self.page_size
+    }
+
+    /// The lengths of the three files.
+    pub fn lengths(&self) -> Lengths
+        ensures { result ≡ self.now.lengths }
+    {
+        self.lengths
+    }
+
     /// How many images there are.
     #[tactic(auto, unfolding(crate::specs::Images::images_of))]
     pub fn count(&self) -> u32
@@ -75,6 +89,13 @@ impl ImageTable {
     /// The images stand in order of file and offset, and none reaches into the next. This is a law; the call has no code.
     pub fn images_stand_in_order(&self)
         ensures { (i j : ℕ) (first second : Image) → i < j → slice_get (images_of self.now) i ≡ Some first → slice_get (images_of self.now) j ≡ Some second → IsBefore self.now.page_size first second }
+    {
+        let _frames = self.frames;
+    }
+
+    /// Each image lies in its file. This is a law; the call has no code.
+    pub fn images_lie_in_their_files(&self)
+        ensures { (i : ℕ) (image : Image) → slice_get (images_of self.now) i ≡ Some image → image.offset + self.now.page_size ≤ length_of self.now.lengths image.part }
     {
         let _frames = self.frames;
     }

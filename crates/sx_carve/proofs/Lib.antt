@@ -1,0 +1,5 @@
+pub mod RunLemmas
+pub mod FrontLemmas
+pub mod ScanLemmas
+pub mod ImageLemmas
+pub mod ChoiceLemmas
