@@ -1,11 +1,12 @@
 //! The candidates of one run of bytes that nothing owns.
-ghost use Rattle.std.specs.Prelude.{◌≡◌, ℕ, List, ◌≤◌, [], MatchOption, length};
-ghost use Rattle.sx_owned.specs.Owned.{Owned};
+ghost use Rattle.std.specs.Prelude.{◌≡◌, ℕ, List, false, None, ◌<◌, ◌≤◌, [], MatchOption, drop, length};
+ghost use Rattle.sx_owned.specs.Owned.{Owned, block_at};
 ghost use Rattle.sx_grammar.specs.declared.shape.ShapeKey.{ShapeKey};
+ghost use Rattle.sx_grammar.specs.Choice.{setting_of, accepted_at};
 ghost use Rattle.sx_carve.specs.Scan.{run_rest, IsSought, IsNextInRun};
 
 use crate::candidate::Candidate;
-use sx_grammar::{Ctx, accept, next_start};
+use sx_grammar::{Ctx, accept, is_ruled_out, next_start};
 use sx_owned::OwnedRuns;
 
 /// The first candidate of a run from a place on. The run begins with its image.
@@ -26,13 +27,29 @@ pub fn next_in_run<'a>(
 {
     let mut at = next_place(run, from);
     while (at as usize) < run.len() {
-        let block = owned.is_block(image, at);
-        if let Some(reading) = accept(run, at, at, block, ctx) {
-            return Some(Candidate { image, at, reading });
+        if can_begin(run, image, at, owned, ctx) {
+            let block = owned.is_block(image, at);
+            if let Some(reading) = accept(run, at, at, block, ctx) {
+                return Some(Candidate { image, at, reading });
+            }
         }
         at = next_place(run, at + 1);
     }
     None
+}
+
+/// Whether a look at a few bytes leaves it open that a candidate begins at a place of a run that begins with its image.
+///
+/// It stands before the reading itself, whose answer is large: in a run of text nearly every place is ruled out here.
+#[inline(always)]
+fn can_begin(run: &[u8], image: u32, at: u32, owned: &OwnedRuns, ctx: &Ctx<'_>) -> bool
+    requires within { at < length run.now }
+    requires small { length run.now ≤ 65536 }
+    requires sought { IsSought ctx.now.usable ctx.now.shapes.now owned.now image }
+    ensures { result ≡ false → accepted_at ctx.now.usable ctx.now.shapes.now (setting_of at (block_at owned.now image at) ctx.now.usable) (drop at run.now) ≡ None }
+{
+    let block = owned.is_block(image, at);
+    !is_ruled_out(run, at, at, block, ctx)
 }
 
 /// The next place of a run, from one on, at which a candidate can begin; the run's end where there is none.
