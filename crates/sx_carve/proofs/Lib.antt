@@ -3,3 +3,4 @@ pub mod FrontLemmas
 pub mod ScanLemmas
 pub mod ImageLemmas
 pub mod ChoiceLemmas
+pub mod CountLemmas

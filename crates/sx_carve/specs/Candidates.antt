@@ -1,7 +1,7 @@
 -- The candidates of page images: at each offset of an image the first form whose whole span lies in the image and isn't owned
 -- ("B-tree Pages": what a deleted cell leaves in a freeblock, or in a page that isn't used any more).
 -- Images and offsets are numbered from 0.
-use Rattle.std.specs.Prelude.{ℕ, ◌+◌, Bool, if◌then◌else◌, List, [], ◌∷◌, ◌++◌, Option, None, Some, take, drop}
+use Rattle.std.specs.Prelude.{ℕ, ◌+◌, ◌<◌, Bool, if◌then◌else◌, List, [], ◌∷◌, ◌++◌, Option, None, Some, take, drop}
 use Rattle.sx_base.specs.declared.evidence.Part.{Part}
 use Rattle.sx_images.specs.declared.image.Image.{Image}
 use Rattle.sx_owned.specs.Owned.{Owned, owned_at, block_at}
@@ -51,3 +51,8 @@ candidates_from usable shapes table page_size files number (image ∷ images) =
 -- all candidates, in order of image and offset
 abbrev pub candidates_of : ℕ → List ShapeKey → Owned → ℕ → (Part → List ℕ) → List Image → List Carved
 candidates_of usable shapes table page_size files images = candidates_from usable shapes table page_size files 0 images
+
+-- each candidate is of one of so many images
+abbrev pub AreIn : ℕ → List Carved → Type 0
+AreIn count [] = Unit {0}
+AreIn count (one ∷ more) = (one.image < count) × AreIn count more

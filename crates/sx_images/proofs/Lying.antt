@@ -1,7 +1,9 @@
 -- Each image lies in its file.
-use Rattle.std.proofs.Common.{◌≡◌, ℕ, suc, ◌+◌, ◌-◌, ◌*◌, ◌/◌, ◌<◌, ◌≤◌, Some, slice_get, inl, inr, sym, ap, ◌∙◌, arith, subst}
+use Rattle.std.proofs.Common.{◌≡◌, ℕ, suc, ◌+◌, ◌-◌, ◌*◌, ◌/◌, ◌<◌, ◌^◌, ◌≤◌, Some, slice_get, inl, inr, sym, ap, ◌∙◌, arith, subst}
 use Rattle.std.proofs.Math.Nat.{mul-le-mul_right}
 use Rattle.std.proofs.lemmas.Bool.{cases_lt}
+use Rattle.sx_base.specs.declared.evidence.Part.{Part}
+use Rattle.sx_base.specs.declared.evidence.Part.TheVariants.{Database, Wal, Journal}
 use Rattle.sx_images.specs.declared.image.Image.{Image as PageImage}
 use Rattle.sx_images.specs.Images.{Table, length_of, pages_of, page_image, images_of}
 use Rattle.sx_images.specs.Read.{IsTable}
@@ -40,3 +42,11 @@ images_lie table i image laid is =
           let back : pages_of table + k ≡ i = omega (arith, high) in
           stored_lies table k image laid (sym (stored_there table k) ∙ ap (slice_get (images_of table)) back ∙ is)
     ]
+
+file_small : (table : Table) (part : Part) → IsTable table → length_of table.lengths part < 2 ^ 32
+file_small table Database laid = laid.small.database
+file_small table Wal laid = laid.small.wal
+file_small table Journal laid = laid.small.journal
+
+pub images_small : (table : Table) (i : ℕ) (image : PageImage) → IsTable table → slice_get (images_of table) i ≡ Some image → image.offset < 2 ^ 32
+images_small table i image laid is = omega (arith, images_lie table i image laid is, file_small table image.part laid)

@@ -1,5 +1,5 @@
 //! The images of the three files, by number.
-ghost use Rattle.std.specs.Prelude.{◌≡◌, ◌↔◌, ℕ, ◌+◌, ◌<◌, ◌≤◌, length, slice_get, Option, Some, None};
+ghost use Rattle.std.specs.Prelude.{◌≡◌, ◌↔◌, ℕ, ◌+◌, ◌<◌, ◌≤◌, ◌^◌, length, slice_get, Option, Some, None};
 ghost use Rattle.sx_images.specs.Images.{pages_of, images_of, length_of, Holds, IsBefore};
 ghost use Rattle.sx_images.specs.Search.{begun};
 
@@ -93,9 +93,10 @@ impl ImageTable {
         let _frames = self.frames;
     }
 
-    /// Each image lies in its file. This is a law; the call has no code.
+    /// Each image lies in its file, which has fewer than 2^32 bytes. This is a law; the call has no code.
     pub fn images_lie_in_their_files(&self)
-        ensures { (i : ℕ) (image : Image) → slice_get (images_of self.now) i ≡ Some image → image.offset + self.now.page_size ≤ length_of self.now.lengths image.part }
+        ensures within { (i : ℕ) (image : Image) → slice_get (images_of self.now) i ≡ Some image → image.offset + self.now.page_size ≤ length_of self.now.lengths image.part }
+        ensures small { (i : ℕ) (image : Image) → slice_get (images_of self.now) i ≡ Some image → image.offset < 2 ^ 32 }
     {
         let _frames = self.frames;
     }

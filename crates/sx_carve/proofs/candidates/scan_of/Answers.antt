@@ -9,7 +9,7 @@ use Rattle.sx_carve.proofs.candidates.scan_of.Goals as goal
 pub page_at-bytes-requires : goal.page_at-bytes-requires
 page_at-bytes-requires c =
     in_file (evidence_bytes c.args.evidence.now.database.now (option_copied c.args.evidence.now.wal) (option_copied c.args.evidence.now.journal)) c.args.images.now c.image-image.result c.page_size.result c.file_of-file.result.now
-    c.requires.images (c.images_lie_in_their_files.ensures c.args.number c.image-image.result c.image-image.ensures) (c.page_size.ensures ∙ c.requires.fit.size) c.file_of-file.ensures
+    c.requires.images (c.images_lie_in_their_files.ensures.within c.args.number c.image-image.result c.image-image.ensures) (c.page_size.ensures ∙ c.requires.fit.size) c.file_of-file.ensures
 
 pub returns : goal.returns
 returns c =
