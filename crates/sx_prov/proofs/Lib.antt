@@ -11,3 +11,4 @@ pub mod Standings
 pub mod Stretching
 pub mod Sums
 pub mod Items
+pub mod Finding

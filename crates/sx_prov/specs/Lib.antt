@@ -8,3 +8,4 @@ pub mod Stretches
 pub mod Walking
 pub mod Sums
 pub mod Items
+pub mod Shelf

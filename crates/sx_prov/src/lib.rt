@@ -8,6 +8,7 @@ mod laws;
 mod map;
 mod page;
 mod runs;
+mod shelf;
 mod stretch;
 
 pub use key::{PageKey, Standing, page_key};
@@ -16,6 +17,7 @@ pub use laws::{places_by_chains, runs_by_rules, stretches_by_rules, totals_by_pr
 pub use map::{PageMap, Totals};
 pub use page::page_map;
 pub use runs::Runs;
+pub use shelf::Maps;
 pub use stretch::{Stretch, Stretches};
 
 #[cfg(test)]

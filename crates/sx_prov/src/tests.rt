@@ -1,12 +1,14 @@
 //! The labels of pages of small databases, by the public calls over pages in a list.
+ghost use Rattle.std.specs.Prelude.{◌≡◌, ◌≤◌};
+
 use crate::{
-    PageKey, PageMap, Standing, Stretch, Stretches, Totals, keyed_map, page_key, page_map,
+    Maps, PageKey, PageMap, Standing, Stretch, Stretches, Totals, keyed_map, page_key, page_map,
 };
 use std::alloc::Global;
 use std::process::Abort;
 use std::test::Fail;
-use sx_base::{Label, Layout, Sheets, Span};
-use sx_refs::references;
+use sx_base::{Label, Layout, Pages, Sheets, Span};
+use sx_refs::{RefTable, references};
 
 /// A page of zeros but for these bytes from `at` on.
 fn page_with(rt: &impl Abort, at: usize, bytes: &[u8]) -> [u8; 512] {
@@ -81,7 +83,8 @@ fn assert_page(
     assert!(rt; sheets.len() <= 6 && layout.page_size == 512);
     assert!(rt; 480 <= layout.usable && layout.usable <= 512);
     let pages = Sheets::new(512, sheets);
-    let table = references(alloc, &pages, layout, &[2])?;
+    let root = if layout.pointer_maps { 3 } else { 2 };
+    let table = references(alloc, &pages, layout, &[root])?;
     let map = page_map(alloc, &pages, &table, layout, no)?;
     assert_runs(rt, &map, want);
     Ok(())
@@ -184,6 +187,118 @@ fn other_pages(rt: HostRuntime) -> Result<(), Fail> {
         reserved,
     ];
     assert_page(&rt, alloc, &sheets, &four, 1, &want)
+}
+
+#[test]
+fn pages_that_are_not_what_refers_to_them(rt: HostRuntime) -> Result<(), Fail> {
+    let alloc = rt.alloc();
+    let head = first(&rt);
+    let three = layout(512, 3, false, 3);
+    let other = page_with(&rt, 0, b"\x03");
+    let trunk = page_with(&rt, 7, b"\x7f");
+    let sheets: [&[u8]; 3] = [&head, &other, &trunk];
+    assert_page(&rt, alloc, &sheets, &three, 2, &[(0, 512, Label::BadNode)])?;
+    assert_page(&rt, alloc, &sheets, &three, 3, &[(0, 512, Label::BadTrunk)])?;
+    let array = page_with(&rt, 0, b"\x0d\x00\x00\x01\x00");
+    let sheets: [&[u8]; 2] = [&head, &array];
+    let two = layout(512, 2, false, 0);
+    assert_page(&rt, alloc, &sheets, &two, 2, &[(0, 512, Label::BadArray)])?;
+    // the first overflow page of a row is the root of the tree too
+    let mut leaf = spilled(&rt);
+    leaf[511] = 2;
+    let sheets: [&[u8]; 2] = [&head, &leaf];
+    assert_page(
+        &rt,
+        alloc,
+        &sheets,
+        &two,
+        2,
+        &[(0, 512, Label::DoubleClaim)],
+    )?;
+    // with pointer maps page 2 is one
+    let mapped = layout(512, 3, true, 0);
+    let sheets: [&[u8]; 3] = [&head, &other, &array];
+    let want = [(0, 510, Label::Entries), (510, 2, Label::MapRest)];
+    assert_page(&rt, alloc, &sheets, &mapped, 2, &want)
+}
+
+#[test]
+fn claims_on_the_header_and_the_array(rt: HostRuntime) -> Result<(), Fail> {
+    let alloc = rt.alloc();
+    let head = first(&rt);
+    let two = layout(512, 2, false, 0);
+    // a cell at offset 6, a freeblock of 6 bytes at 10, and a cell content area that begins at 65536
+    let leaf = page_with(
+        &rt,
+        0,
+        b"\x0d\x00\x0a\x00\x01\x00\x00\x00\x00\x06\x00\x00\x00\x06",
+    );
+    let want = [
+        (0, 6, Label::NodeHeader),
+        (6, 4, Label::Overlap),
+        (10, 6, Label::Freeblock(0)),
+        (16, 496, Label::Gap),
+    ];
+    assert_page(&rt, alloc, &[&head, &leaf], &two, 2, &want)
+}
+
+/// The places at which maps are kept, asked for one after the other, each by a page and the number of its image.
+fn places_of<'a, P: Pages<'a>>(
+    alloc: Global,
+    pages: &P,
+    table: &RefTable,
+    layout: &Layout,
+    asked: &[(u32, u32)],
+) -> Result<Vec<u32>, Fail>
+    requires page_size { P.page_size pages.now ≡ layout.now.page_size }
+    requires least { 480 ≤ layout.now.usable }
+    requires within { layout.now.usable ≤ layout.now.page_size }
+    requires small { layout.now.page_size ≤ 65536 }
+{
+    let mut maps = Maps::fresh(alloc)?;
+    let mut places = Vec::new(alloc);
+    for (no, image) in asked {
+        if pages.page(*no).is_some() && *no != layout.lock_page() {
+            places.push(maps.place_of(pages, table, layout, *no, *image)?)?;
+            let _kept = maps.map_of(pages, table, layout, *no, *image)?;
+        }
+    }
+    Ok(places)
+}
+
+#[test]
+fn maps_are_kept_by_image_key_and_bytes(rt: HostRuntime) -> Result<(), Fail> {
+    let alloc = rt.alloc();
+    let (head, leaf) = (first(&rt), three_rows(&rt));
+    let mut freed = three_rows(&rt);
+    put(&rt, &mut freed, 1, b"\x01\xec\x00\x02");
+    put(&rt, &mut freed, 10, b"\x01\xe4");
+    put(&rt, &mut freed, 492, b"\x00\x00\x00\x0a");
+    let three = layout(512, 3, false, 0);
+    assert!(rt; three.page_size == 512 && three.usable == 512);
+    let sheets: [&[u8]; 3] = [&head, &freed, &leaf];
+    let pages = Sheets::new(512, &sheets);
+    let table = references(alloc, &pages, &three, &[2, 3])?;
+    // the same page twice, other bytes of its image, another image
+    let asked = [(2, 1), (2, 1), (3, 1), (3, 2), (2, 1)];
+    let places = places_of(alloc, &pages, &table, &three, &asked)?;
+    assert_eq!(rt; places.as_slice(), [0, 0, 1, 2, 0].as_slice());
+    Ok(())
+}
+
+#[test]
+fn a_page_of_65536_bytes(rt: HostRuntime) -> Result<(), Fail> {
+    let page = vec![in rt.alloc(); 0u8; 65536]?;
+    let key = PageKey {
+        usable: 65536,
+        standing: Standing::Body(65532),
+    };
+    if page.len() != 65536 {
+        return Err(Fail::from("the page has 65536 bytes"));
+    }
+    let map = keyed_map(rt.alloc(), &page, key)?;
+    assert_runs(&rt, &map, &[(0, 4, Label::Link), (4, 65532, Label::Body)]);
+    Ok(())
 }
 
 #[test]
