@@ -236,9 +236,20 @@ def nodes():
     write("largest_page", placed((0, changed(EMPTY, (16, 0), (17, 1), (105, 0))), size=65536))
 
 
+def labels():
+    free = (0, changed(PLAIN, (31, 4), (35, 3), (39, 2)))
+    write("free_pages", placed(free, (1024, words(0, 1, 4)), (1536, ROWS)))
+    write("free_pages_too_many", placed(free, (1024, words(0, 127, 4)), (1536, ROWS)))
+    write("free_pages_round", placed(free, (1024, words(3, 1, 4)), (1536, ROWS)))
+    write("pointer_map_on_rows", changed(PLAIN, (55, 2)))
+    write("cell_on_freeblock", changed(DELETED, (516, 3), (524, 1), (525, 236)))
+    write("spilled_too_long", placed((0, changed(SPILLED, (31, 6), (2051, 6))), size=3072))
+
+
 if __name__ == "__main__":
     headers_and_sizes()
     logs()
     journals()
     nodes()
     tables()
+    labels()

@@ -1,5 +1,5 @@
 -- Which words can ask for a moment that isn't there.
-use Rattle.std.proofs.Common.{◌≡◌, Bool, true, false, IsTrue, Option, Some, None, Result, Ok, if◌then◌else◌, ap}
+use Rattle.std.proofs.Common.{◌≡◌, Bool, true, false, IsTrue, Option, Some, None, Result, Ok, Err, IfOk, IfErr, if◌then◌else◌, ap, sym, subst}
 use Rattle.std.specs.List.{last_or}
 use Rattle.sx_base.specs.declared.moment.Moment.{Moment}
 use Rattle.sx_base.specs.declared.moment.Moment.TheVariants.{Journal, File, Commit}
@@ -8,7 +8,7 @@ use Rattle.sx_timeline_text.proofs.Listed as listed
 use Rattle.sx_words.specs.declared.request.When.TheVariants.{At, Last}
 use Rattle.sx_app.specs.Evidence.{◌>>=◌}
 use Rattle.sx_app.specs.Moments.{CanMiss, moment_of, there}
-use Rattle.sx_app.specs.Owed.{Fails}
+use Rattle.sx_app.specs.Owed.{Fails, Gives}
 use Rattle.sx_app.specs.declared.refused.Refused.{Refused}
 use Rattle.sx_app.specs.declared.refused.Refused.TheVariants.{Usage, NoDatabase, BadHeader, TooLarge, NoMoment, Unreadable, NoTable, NoTree, NoByte, ReadFault, WriteFault, Memory}
 
@@ -54,3 +54,13 @@ fails_on NoTable given next fails = ap (λ first. first >>= next) fails
 fails_on (NoByte length) given next fails = ap (λ first. first >>= next) fails
 fails_on WriteFault given next fails = ap (λ first. first >>= next) fails
 fails_on NoTree given next fails = ap (λ first. first >>= next) fails
+
+-- want of memory says nothing of what would have been given
+pub memory_fails : {Y : Type 0} (refused : Refused) (given : Result Y Refused) → refused ≡ Memory → Fails refused given
+memory_fails refused given is = subst (λ refused. Fails refused given) (sym is) tt
+
+-- what was made, or that memory ran out
+pub made_gives : {X Y : Type 0} (view : X → Y) (made : Result X Refused) (given : Y) → IfOk made (λ x. view x ≡ given) → IfErr made (λ refused. refused ≡ Memory)
+    → Gives view made (Ok given)
+made_gives view (Ok x) given told may = ap Ok (sym told)
+made_gives view (Err refused) given told may = memory_fails refused (Ok given) may

@@ -6,5 +6,6 @@ pub mod GivenTables
 pub mod Commands
 pub mod Answers
 pub mod Stages
+pub mod Labels
 pub mod Loaded
 pub mod Owed

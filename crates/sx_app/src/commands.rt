@@ -1,20 +1,26 @@
 //! The table of commands: what each makes of the gathered evidence.
-ghost use Rattle.std.specs.Prelude.{◌≡◌, IfErr};
+ghost use Rattle.std.specs.Prelude.{◌≡◌, Ok, IfErr};
 ghost use Rattle.sx_page_text.specs.Rest.{page_rest};
 ghost use Rattle.sx_words.specs.Words.{question_by};
 ghost use Rattle.sx_words.specs.Words as words;
+ghost use Rattle.sx_moment.specs.Limits.{IsSmall};
+ghost use Rattle.sx_words.specs.declared.request.When.{When};
 ghost use Rattle.sx_app.specs.Commands.{part_named, reply_over};
+ghost use Rattle.sx_app.specs.Labels.{explain_at, map_at};
 ghost use Rattle.sx_app.specs.Owed.{Gives, IsAnswered};
 ghost use Rattle.sx_app.specs.Stages.{MayMeet, Deciding};
 
 use crate::finish::finish;
+use crate::labels::{explain_lines, headless_lines, images_in, map_lines, roots_at};
 use crate::moments::{moment_meant, snapshot_asked};
 use crate::refused::Refused;
 use crate::tables::show_lines;
 use std::alloc::Global;
-use sx_base::Part;
+use sx_base::{Moment, Part, Place};
 use sx_edge::Sink;
-use sx_moment::Case;
+use sx_explain_text::ExplainLines;
+use sx_map_text::HeadlessLines;
+use sx_moment::{Case, Snapshot};
 use sx_page_text::PageLines;
 use sx_timeline_text::TimelineLines;
 use sx_words::{Question, When};
@@ -24,7 +30,9 @@ pub fn part_named(question: &Question<'_>) -> Part
     ensures { result ≡ part_named (question_by question.now) }
 {
     match question {
-        Question::Timeline | Question::Show { .. } | Question::Page { .. } => Part::Database,
+        Question::Explain { place, .. } => place.part,
+        Question::Timeline | Question::Show { .. } | Question::Map { .. } | Question::Page { .. } =>
+            Part::Database,
     }
 }
 
@@ -35,13 +43,16 @@ pub fn answer_question<W: Sink>(
     case: &Case<'_>,
     out: &mut W,
 ) -> Result<(), Refused>
+    requires { IsSmall case.now.database case.now.wal_bytes case.now.journal_bytes }
     ensures { IsAnswered (question_by question.now) (reply_over (question_by question.now) case.now)
         (W.taken out.old) (W.taken out.new) (W.faults out.old) (W.faults out.new) result }
 {
     match question {
         Question::Timeline => finish(alloc, question, Ok(TimelineLines::new(case)), out),
         Question::Show { table, at } => answer_show(alloc, question, case, table, *at, out),
+        Question::Map { at } => answer_map(alloc, question, case, *at, out),
         Question::Page { no, at } => finish(alloc, question, page_lines(case, *no, *at), out),
+        Question::Explain { place, at } => answer_explain(alloc, question, case, *place, *at, out),
     }
 }
 
@@ -67,6 +78,98 @@ fn answer_show<W: Sink>(
             out,
         ),
         Err(refused) => finish::<PageLines<'_>, W>(alloc, question, Err(refused), out),
+    }
+}
+
+// Answers `map`, over the pages of the moment that it asks for.
+fn answer_map<W: Sink>(
+    alloc: Global,
+    question: &Question<'_>,
+    case: &Case<'_>,
+    at: When,
+    out: &mut W,
+) -> Result<(), Refused>
+    requires { question_by question.now ≡ words.Map at }
+    ensures { IsAnswered (question_by question.now) (reply_over (words.Map at) case.now)
+        (W.taken out.old) (W.taken out.new) (W.faults out.old) (W.faults out.new) result }
+{
+    match snapshot_asked(case, at) {
+        Ok(snapshot) => map_pages(alloc, question, &snapshot, out),
+        Err(refused) => finish::<HeadlessLines, W>(alloc, question, Err(refused), out),
+    }
+}
+
+// Answers `map`, over the pages of a moment.
+#[tactic(auto, unfolding(crate::specs::Labels::map_at))]
+fn map_pages<W: Sink>(
+    alloc: Global,
+    question: &Question<'_>,
+    snapshot: &Snapshot<'_, '_>,
+    out: &mut W,
+) -> Result<(), Refused>
+    ensures { IsAnswered (question_by question.now) (Ok (map_at snapshot.now.case.now snapshot.now.moment))
+        (W.taken out.old) (W.taken out.new) (W.faults out.old) (W.faults out.new) result }
+{
+    if snapshot.head().is_none() {
+        return finish(alloc, question, Ok(headless_lines(snapshot)), out);
+    }
+    match roots_at(alloc, snapshot) {
+        Ok(roots) => finish(
+            alloc,
+            question,
+            map_lines(alloc, snapshot, roots.as_slice()),
+            out,
+        ),
+        Err(refused) => finish::<HeadlessLines, W>(alloc, question, Err(refused), out),
+    }
+}
+
+// Answers `explain`, over the evidence and the pages of the moment that it asks for.
+fn answer_explain<W: Sink>(
+    alloc: Global,
+    question: &Question<'_>,
+    case: &Case<'_>,
+    place: Place,
+    at: When,
+    out: &mut W,
+) -> Result<(), Refused>
+    requires asked { question_by question.now ≡ words.Explain place at }
+    requires small { IsSmall case.now.database case.now.wal_bytes case.now.journal_bytes }
+    ensures { IsAnswered (question_by question.now) (reply_over (words.Explain place at) case.now)
+        (W.taken out.old) (W.taken out.new) (W.faults out.old) (W.faults out.new) result }
+{
+    let moment = moment_meant(case, at);
+    match snapshot_asked(case, at) {
+        Ok(snapshot) => explain_byte(alloc, question, case, &snapshot, moment, place, out),
+        Err(refused) => finish::<ExplainLines<'_>, W>(alloc, question, Err(refused), out),
+    }
+}
+
+// Answers `explain`, over the pages of a moment.
+fn explain_byte<W: Sink>(
+    alloc: Global,
+    question: &Question<'_>,
+    case: &Case<'_>,
+    snapshot: &Snapshot<'_, '_>,
+    moment: Moment,
+    place: Place,
+    out: &mut W,
+) -> Result<(), Refused>
+    requires asked { (at : When) × (question_by question.now ≡ words.Explain place at) }
+    requires small { IsSmall case.now.database case.now.wal_bytes case.now.journal_bytes }
+    requires case { snapshot.now.case.now ≡ case.now }
+    requires moment { moment ≡ snapshot.now.moment }
+    ensures { IsAnswered (question_by question.now) (explain_at case.now moment place)
+        (W.taken out.old) (W.taken out.new) (W.faults out.old) (W.faults out.new) result }
+{
+    match images_in(alloc, case) {
+        Ok(images) => finish(
+            alloc,
+            question,
+            explain_lines(alloc, case, snapshot, moment, &images, place),
+            out,
+        ),
+        Err(refused) => finish::<ExplainLines<'_>, W>(alloc, question, Err(refused), out),
     }
 }
 

@@ -2,6 +2,7 @@
 ghost use Rattle.std.specs.Prelude.{◌≡◌, ◌≤◌, ◌++◌, length, IfOk, IfErr, IfSome};
 ghost use Rattle.sx_base.specs.Files.{file_named};
 ghost use Rattle.sx_edge.specs.declared.whole_file.TheConstants.{GREATEST_FILE};
+ghost use Rattle.sx_moment.specs.Limits.{IsSmall};
 ghost use Rattle.sx_app.specs.Evidence.{database_in, database_of, companion_in, companions_of, evidence_of, case_of};
 ghost use Rattle.sx_app.specs.Loaded.{opened_by, bytes_by, companions_by, evidence_by, IsWithin};
 ghost use Rattle.sx_app.specs.Owed.{Gives, HasCauses, HasUsed};
@@ -112,7 +113,8 @@ fn load_companion<S: Store>(
 /// The evidence with its moments. The cost is that of reading the write-ahead log and the journal once, and of
 /// comparing each page of a committed frame with that of the file.
 pub fn gather(alloc: Global, loaded: &Loaded) -> Result<Case<'_>, AllocError>
-    ensures { IfOk result (λ case. case ≡ case_of (evidence_by loaded.now)) }
+    ensures evidence { IfOk result (λ case. case ≡ case_of (evidence_by loaded.now)) }
+    ensures small { IfOk result (λ case. IsSmall case.database case.wal_bytes case.journal_bytes) }
 {
     let evidence = Evidence {
         database: loaded.database.bytes.as_slice(),

@@ -126,7 +126,7 @@ fn add_name(alloc: Global, name: &[u8], names: &mut Vec<Vec<u8>>) -> Result<(), 
 }
 
 /// The schema of a moment.
-fn schema_at(alloc: Global, snapshot: &Snapshot<'_, '_>) -> Result<Schema, AllocError>
+pub fn schema_at(alloc: Global, snapshot: &Snapshot<'_, '_>) -> Result<Schema, AllocError>
     ensures { IfOk result (λ schema. entries_by schema ≡ schema_of (size_at snapshot.now.case.now snapshot.now.moment) (view_of snapshot.now.case.now snapshot.now.moment) (layout_of snapshot.now.case.now snapshot.now.moment).usable (encoding_at snapshot.now.case.now snapshot.now.moment)) }
 {
     let layout = snapshot.layout();

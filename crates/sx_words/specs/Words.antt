@@ -5,12 +5,16 @@ use Rattle.std.specs.Option.{option_map}
 use Rattle.std.specs.Str.{all_ascii_digits}
 use Rattle.std.specs.Str.Parse.{digits_value}
 use Rattle.std.specs.declared.alloc.Global.{Global}
+use Rattle.sx_base.specs.declared.evidence.Part.{Part}
+use Rattle.sx_base.specs.declared.evidence.Part.TheVariants as parts
+use Rattle.sx_base.specs.declared.evidence.Place.{Place}
 use Rattle.sx_base.specs.declared.moment.Moment.{Moment}
 use Rattle.sx_base.specs.declared.moment.Moment.TheVariants as moments
 use Rattle.sx_words.specs.declared.command.Command.{Command}
 use Rattle.sx_words.specs.declared.command.Command.TheVariants as commands
 use Rattle.sx_words.specs.declared.key.Key.{Key}
 use Rattle.sx_words.specs.declared.key.Key.TheVariants.{No, Table, At}
+use Rattle.sx_words.specs.declared.key.Key.TheVariants as keys
 use Rattle.sx_words.specs.declared.key.Wanted.{Wanted}
 use Rattle.sx_words.specs.declared.key.Wanted.TheVariants.{Required, Allowed}
 use Rattle.sx_words.specs.declared.request.Question.{Question as ReadQuestion}
@@ -25,7 +29,9 @@ use Rattle.sx_words.specs.declared.request.Usage.{Usage}
 pub data Question : Type 0 where
   Timeline : Question
   Show : (table : List ℕ) → (at : When) → Question
+  Map : (at : When) → Question
   Page : (number : ℕ) → (at : When) → Question
+  Explain : (place : Place) → (at : When) → Question
 
 -- what words can ask for: a question about the evidence of a database's name
 pub data Asked : Type 0 where
@@ -42,13 +48,17 @@ abbrev pub command_named : List ℕ → Option Command
 command_named word =
     if bytes_eq word (codes "timeline") then Some commands.Timeline
     else (if bytes_eq word (codes "show") then Some commands.Show
-    else (if bytes_eq word (codes "page") then Some commands.Page else None))
+    else (if bytes_eq word (codes "map") then Some commands.Map
+    else (if bytes_eq word (codes "page") then Some commands.Page
+    else (if bytes_eq word (codes "explain") then Some commands.Explain else None))))
 
 -- the keys that the words behind a command may set, and which of them they must: one row a command
 abbrev pub keys_of : Command → List Wanted
 keys_of commands.Timeline = []
 keys_of commands.Show = Required Table ∷ Allowed At ∷ []
+keys_of commands.Map = Allowed At ∷ []
 keys_of commands.Page = Required No ∷ Allowed At ∷ []
+keys_of commands.Explain = Required keys.Part ∷ Required keys.Byte ∷ Allowed At ∷ []
 
 -- ---- words that set a key
 
@@ -56,6 +66,8 @@ keys_of commands.Page = Required No ∷ Allowed At ∷ []
 abbrev pub key_name : Key → List ℕ
 key_name No = codes "no"
 key_name Table = codes "table"
+key_name keys.Part = codes "part"
+key_name keys.Byte = codes "byte"
 key_name At = codes "at"
 
 -- the byte `=`
@@ -116,6 +128,19 @@ unfoldable pub page_number_of : Option (List ℕ) → Option ℕ
 page_number_of None = None
 page_number_of (Some text) = number_of 1 4294967295 text
 
+-- the part of the evidence that is named
+unfoldable pub part_of : Option (List ℕ) → Option Part
+part_of None = None
+part_of (Some text) =
+    if bytes_eq text (codes "database") then Some parts.Database
+    else (if bytes_eq text (codes "wal") then Some parts.Wal
+    else (if bytes_eq text (codes "journal") then Some parts.Journal else None))
+
+-- the offset of a byte in its file, up to the greatest number of 64 bits
+unfoldable pub offset_of : Option (List ℕ) → Option ℕ
+offset_of None = None
+offset_of (Some text) = number_of 0 18446744073709551615 text
+
 -- the moment of a number: 0 is the file, and every other number a commit
 abbrev pub numbered : ℕ → Moment
 numbered number = if number == 0 then moments.File else moments.Commit number
@@ -141,11 +166,31 @@ page_of (Some number) (Some at) = Some (Page number at)
 page_of (Some number) None = None
 page_of None at = None
 
+-- all pages at some time, where that could be read
+abbrev pub map_of : Option When → Option Question
+map_of (Some at) = Some (Map at)
+map_of None = None
+
+-- a byte of a part, where both could be read
+abbrev pub byte_of : Option Part → Option ℕ → Option Place
+byte_of (Some part) (Some offset) = Some (record { part = part; offset = offset })
+byte_of (Some part) None = None
+byte_of None offset = None
+
+-- a byte at some time, where both could be read
+abbrev pub explain_of : Option Place → Option When → Option Question
+explain_of (Some place) (Some at) = Some (Explain place at)
+explain_of (Some place) None = None
+explain_of None at = None
+
 -- the question of a command, with words that set its keys, where their values can be read: one case a command
 unfoldable pub question_of : Command → List (List ℕ) → Option Question
 question_of commands.Timeline words = Some Timeline
 question_of commands.Show words = show_of (value_of Table words) (when_of (value_of At words))
+question_of commands.Map words = map_of (when_of (value_of At words))
 question_of commands.Page words = page_of (page_number_of (value_of No words)) (when_of (value_of At words))
+question_of commands.Explain words =
+    explain_of (byte_of (part_of (value_of keys.Part words)) (offset_of (value_of keys.Byte words))) (when_of (value_of At words))
 
 -- what a name, a command and the words behind it ask for
 unfoldable pub command_of : List ℕ → Option Command → List (List ℕ) → Option Asked
@@ -169,7 +214,9 @@ texts words = map string_bytes words
 abbrev pub question_by : ReadQuestion → Question
 question_by questions.Timeline = Timeline
 question_by (questions.Show table at) = Show table.now at
+question_by (questions.Map at) = Map at
 question_by (questions.Page number at) = Page number at
+question_by (questions.Explain place at) = Explain place at
 
 -- what a request asks for, without where its names lie in memory
 abbrev pub asked_by : Request → Asked

@@ -9,7 +9,9 @@ use crate::key::{Key, Wanted};
 pub enum Command {
     Timeline,
     Show,
+    Map,
     Page,
+    Explain,
 }
 
 /// The command of a word, where it is one.
@@ -19,7 +21,9 @@ pub fn command_named(word: &str) -> Option<Command>
     match word {
         "timeline" => Some(Command::Timeline),
         "show" => Some(Command::Show),
+        "map" => Some(Command::Map),
         "page" => Some(Command::Page),
+        "explain" => Some(Command::Explain),
         _ => None,
     }
 }
@@ -32,7 +36,13 @@ impl Command {
         match self {
             Command::Timeline => &[],
             Command::Show => &[Wanted::Required(Key::Table), Wanted::Allowed(Key::At)],
+            Command::Map => &[Wanted::Allowed(Key::At)],
             Command::Page => &[Wanted::Required(Key::No), Wanted::Allowed(Key::At)],
+            Command::Explain => &[
+                Wanted::Required(Key::Part),
+                Wanted::Required(Key::Byte),
+                Wanted::Allowed(Key::At),
+            ],
         }
     }
 }

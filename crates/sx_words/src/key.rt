@@ -9,6 +9,10 @@ pub enum Key {
     No,
     /// The name of a table.
     Table,
+    /// One of the three files.
+    Part,
+    /// The offset of a byte in its file.
+    Byte,
     /// The moment of the evidence.
     At,
 }
@@ -21,6 +25,8 @@ impl Key {
         match self {
             Key::No => "no",
             Key::Table => "table",
+            Key::Part => "part",
+            Key::Byte => "byte",
             Key::At => "at",
         }
     }

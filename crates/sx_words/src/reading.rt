@@ -1,14 +1,14 @@
 //! The grammar of the words.
 ghost use Rattle.std.specs.Prelude.{◌≡◌, ◌∷◌, []};
 ghost use Rattle.std.specs.Option.{option_copied, option_map};
-ghost use Rattle.sx_words.specs.Words.{texts, request_of, command_of, question_of, show_of, page_of, command_named, page_number_of, when_of, asked, question_by, is_name, numbered};
+ghost use Rattle.sx_words.specs.Words.{texts, request_of, command_of, question_of, show_of, map_of, page_of, explain_of, byte_of, part_of, offset_of, command_named, page_number_of, when_of, asked, question_by, is_name, numbered};
 
 use crate::command::{Command, command_named};
 use crate::key::Key;
 use crate::number::number_of;
 use crate::request::{Question, Request, Usage, When};
 use crate::settings::{are_settings, value_of};
-use sx_base::Moment;
+use sx_base::{Moment, Part, Place};
 
 /// The greatest number of a page, and of a moment.
 const GREATEST: u64 = 4_294_967_295;
@@ -17,8 +17,9 @@ const GREATEST: u64 = 4_294_967_295;
 ///
 /// They are `<db> <command>` and words `key=value`, split at their first `=`. `<db>` isn't empty and isn't the word
 /// `drill`, which is kept for a command that reads no file. The commands are `timeline`, which has no key; `show` with its
-/// keys `table`, which is required, and `at`; and `page` with its keys `no`, from 1 to 4294967295, which is required, and
-/// `at`. `at` is `journal` or from 0 to 4294967295.
+/// keys `table`, which is required, and `at`; `map` with its key `at`; `page` with its keys `no`, from 1 to 4294967295, which
+/// is required, and `at`; and `explain` with its keys `part`, which is `database`, `wal` or `journal`, and `byte`, from 0 to
+/// 18446744073709551615, which are both required, and `at`. `at` is `journal` or from 0 to 4294967295.
 /// The keys come in any order, each at most once. A number is `0` or decimal digits that don't begin with 0.
 ///
 /// Every other list of words is outside the grammar, and `Usage` comes exactly there. The request borrows its names from
@@ -65,8 +66,16 @@ fn read_question<'w>(command: Command, words: &'w [String]) -> Option<Question<'
     match command {
         Command::Timeline => Some(Question::Timeline),
         Command::Show => show(value_of(Key::Table, words), when(value_of(Key::At, words))),
+        Command::Map => map(when(value_of(Key::At, words))),
         Command::Page => page(
             page_number(value_of(Key::No, words)),
+            when(value_of(Key::At, words)),
+        ),
+        Command::Explain => explain(
+            place(
+                part(value_of(Key::Part, words)),
+                byte(value_of(Key::Byte, words)),
+            ),
             when(value_of(Key::At, words)),
         ),
     }
@@ -87,6 +96,54 @@ fn page(no: Option<u32>, at: Option<When>) -> Option<Question<'static>>
     ensures { option_map question_by result ≡ page_of «no» at }
 {
     Some(Question::Page { no: no?, at: at? })
+}
+
+// All pages at some time, where that could be read.
+fn map(at: Option<When>) -> Option<Question<'static>>
+    ensures { option_map question_by result ≡ map_of at }
+{
+    Some(Question::Map { at: at? })
+}
+
+// A byte at some time, where both could be read.
+fn explain(place: Option<Place>, at: Option<When>) -> Option<Question<'static>>
+    ensures { option_map question_by result ≡ explain_of place at }
+{
+    Some(Question::Explain {
+        place: place?,
+        at: at?,
+    })
+}
+
+// A byte of a part, where both could be read.
+fn place(part: Option<Part>, byte: Option<u64>) -> Option<Place>
+    ensures { result ≡ byte_of part byte }
+{
+    Some(Place {
+        part: part?,
+        offset: byte?,
+    })
+}
+
+// The part of the evidence that is named.
+#[tactic(auto, unfolding(crate::specs::Words::part_of))]
+fn part(value: Option<&str>) -> Option<Part>
+    ensures { result ≡ part_of (option_copied value.entry) }
+{
+    match value? {
+        "database" => Some(Part::Database),
+        "wal" => Some(Part::Wal),
+        "journal" => Some(Part::Journal),
+        _ => None,
+    }
+}
+
+// The offset of a byte in its file, from 0 to the greatest of 64 bits.
+#[tactic(auto, unfolding(crate::specs::Words::offset_of))]
+fn byte(value: Option<&str>) -> Option<u64>
+    ensures { result ≡ offset_of (option_copied value.entry) }
+{
+    number_of(value?, 0, u64::MAX)
 }
 
 // The number of a page, from 1.

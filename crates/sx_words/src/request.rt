@@ -1,6 +1,6 @@
 //! What the words ask for.
 
-use sx_base::Moment;
+use sx_base::{Moment, Place};
 
 /// What the words ask for.
 #[derive(Clone, Copy, Debug, PartialEq, Eq)]
@@ -16,8 +16,12 @@ pub enum Question<'w> {
     Timeline,
     /// `show table=T [at=M]`: the rows of a table at some time.
     Show { table: &'w str, at: When },
+    /// `map [at=M]`: what each byte of each page is at some time.
+    Map { at: When },
     /// `page no=N [at=M]`: page `no`, from 1, at some time.
     Page { no: u32, at: When },
+    /// `explain part=P byte=N [at=M]`: what a byte of one of the files is, and what at some time.
+    Explain { place: Place, at: When },
 }
 
 /// When: which states of the database a command looks at.

@@ -3,7 +3,7 @@ use super::*;
 use std::alloc::Global;
 use std::process::Abort;
 use std::test::Fail;
-use sx_base::Moment;
+use sx_base::{Moment, Part, Place};
 
 fn owned(alloc: Global, words: &[&str]) -> Result<Vec<String>, Fail> {
     let mut list = Vec::new(alloc);
@@ -71,6 +71,28 @@ fn a_table_is_asked_for_by_its_name_and_a_time(rt: HostRuntime) -> Result<(), Fa
 }
 
 #[test]
+fn a_byte_is_asked_for_by_its_file_and_a_time(rt: HostRuntime) -> Result<(), Fail> {
+    let alloc = rt.alloc();
+    let db = "a.db";
+    let words = owned(
+        alloc,
+        &["a.db", "explain", "byte=18446744073709551615", "part=wal"],
+    )?;
+    let place = Place {
+        part: Part::Wal,
+        offset: u64::MAX,
+    };
+    let at = When::Last;
+    let question = Question::Explain { place, at };
+    assert_eq!(rt; read_words(&words), Ok(Request::Evidence { db, question }));
+    let words = owned(alloc, &["a.db", "map", "at=journal"])?;
+    let at = When::At(Moment::Journal);
+    let question = Question::Map { at };
+    assert_eq!(rt; read_words(&words), Ok(Request::Evidence { db, question }));
+    Ok(())
+}
+
+#[test]
 fn other_words_are_outside_the_grammar(rt: HostRuntime) -> Result<(), Fail> {
     let alloc = rt.alloc();
     for words in [
@@ -104,6 +126,13 @@ fn other_words_are_outside_the_grammar(rt: HostRuntime) -> Result<(), Fail> {
         &["a.db", "show"],
         &["a.db", "show", "table="],
         &["a.db", "show", "table=t", "no=1"],
+        &["a.db", "map", "no=1"],
+        &["a.db", "map", "at=1", "at=1"],
+        &["a.db", "explain", "part=wal"],
+        &["a.db", "explain", "byte=1"],
+        &["a.db", "explain", "part=WAL", "byte=1"],
+        &["a.db", "explain", "part=wal", "byte=01"],
+        &["a.db", "explain", "part=wal", "byte=18446744073709551616"],
         &["a.db", "page", "no=1", "at"],
         &["a.db", "page", "no=1", "at="],
         &["a.db", "page", "no=1", "at=01"],
