@@ -1,12 +1,11 @@
 -- What the index of a log says of its frames.
-use Rattle.std.proofs.Common.{◌≡◌, ℕ, ◌+◌, ◌<◌, ◌≤◌, Bool, true, false, ◌&&◌, cond, List, [], length, map, get_or, Some, inl, inr, refl, sym, ap, ◌∙◌, arith, slice_get, ltb, eqb, not, if◌then◌else◌}
+use Rattle.std.proofs.Common.{◌≡◌, ℕ, ◌<◌, ◌≤◌, Bool, true, false, ◌&&◌, cond, List, length, map, Some, inl, inr, refl, sym, ap, ◌∙◌, arith, slice_get, ltb, eqb, not, if◌then◌else◌}
 use Rattle.std.specs.List.{range_with_len}
 use Rattle.std.proofs.lemmas.Bool.{cases_Bool, ltb-false, eqb-true}
 use Rattle.std.proofs.lemmas.List.FromFn.{length-map-range_with_len, get_or-map-range_with_len}
 use Rattle.std.proofs.lemmas.Option.{slice_get_within, get_or_from_slice_get}
 use Rattle.sx_base.specs.Bytes.{word_at}
-use Rattle.sx_bytes.specs.PageSize.{IsPageSize, is_page_size}
-use Rattle.sx_base.specs.declared.moment.Class.{Class}
+use Rattle.sx_bytes.specs.PageSize.{is_page_size}
 use Rattle.sx_base.specs.declared.moment.Class.TheVariants.{Committed, Pending, Foreign, Broken}
 use Rattle.sx_wal.specs.declared.slot.Slot.{Slot}
 use Rattle.sx_wal.specs.declared.state.WalState.{WalState}
@@ -15,7 +14,7 @@ use Rattle.sx_wal.specs.State.{state_of, has_slots, has_magic, are_same, two_wor
 use Rattle.sx_wal.specs.Frames.{whole_frames, slot_count, has_salts, is_valid}
 use Rattle.sx_wal.specs.Wal.{Wal, commits_of, is_within, class_past, class_of, slot_of, log_of}
 use Rattle.sx_wal.proofs.LogLemmas.{slot_stands}
-use Rattle.sx_generations.specs.Older.{AreSlotsOf, AreTestedFrames, IsTestedFrame, is_valid_class}
+use Rattle.sx_generations.specs.Older.{AreSlotsOf, AreTestedFrames, is_valid_class}
 
 -- the tests that a state with slots passed
 header_states : (short magic version possible same : Bool) (rest : WalState)

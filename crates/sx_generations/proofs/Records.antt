@@ -1,18 +1,18 @@
 -- The records of a zeroed journal, and how the list of groups grows.
-use Rattle.std.proofs.Common.{◌≡◌, ℕ, ◌+◌, ◌-◌, ◌*◌, ◌^◌, ◌<◌, ◌≤◌, Bool, true, false, if◌then◌else◌, List, [], ◌∷◌, ◌++◌, length, map, take, get_or, Option, Some, refl, sym, ap, ◌∙◌, arith, slice_get, nat_lt, All}
+use Rattle.std.proofs.Common.{◌≡◌, ℕ, ◌+◌, ◌*◌, ◌^◌, ◌<◌, ◌≤◌, Bool, true, false, if◌then◌else◌, List, [], ◌∷◌, ◌++◌, length, map, take, get_or, Some, refl, sym, ap, ◌∙◌, arith, slice_get, nat_lt, All}
 use Rattle.std.specs.Option.{option_map}
 use Rattle.std.specs.List.{range_with_len}
 use Rattle.std.proofs.lemmas.List.{length-map, map-append, take_more, take_all, length-take}
-use Rattle.std.proofs.lemmas.List.Elements.{All-weaker, All-same, All-get_or}
+use Rattle.std.proofs.lemmas.List.Elements.{All-weaker, All-same}
 use Rattle.std.proofs.lemmas.List.FromFn.{length-map-range_with_len, get_or-map-range_with_len}
 use Rattle.std.proofs.lemmas.Option.{slice_get-map, slice_get_within, slice_get-get_or, get_or_from_slice_get}
 use Rattle.sx_base.specs.declared.moment.Class.TheVariants.{Unchecked}
 use Rattle.sx_journal.specs.declared.entry.Entry.{Entry}
 use Rattle.sx_journal.specs.declared.state.JournalState.{JournalState}
-use Rattle.sx_journal.specs.declared.state.JournalState.TheVariants.{Absent, Short, Live, Zeroed, Alien}
+use Rattle.sx_journal.specs.declared.state.JournalState.TheVariants.{Short, Zeroed, Alien}
 use Rattle.sx_journal.specs.Header.{is_live, is_zeroed}
 use Rattle.sx_journal.specs.Segments.{record_len, whole_records}
-use Rattle.sx_journal.specs.Entries.{Record, record_from, records_from, unchecked}
+use Rattle.sx_journal.specs.Entries.{Record, record_from, unchecked}
 use Rattle.sx_journal.specs.Journal.{Journal, headless, live_journal, journal_of}
 use Rattle.sx_journal.proofs.Held.{journal_held}
 use Rattle.sx_generations.specs.declared.neighbours.Streak.{Streak}

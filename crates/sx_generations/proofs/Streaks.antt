@@ -1,7 +1,7 @@
 -- What streaks are: the maximal lists of at least two neighbours, in order.
-use Rattle.std.proofs.Common.{◌≡◌, ℕ, zero, suc, ◌+◌, ◌-◌, ◌<◌, ◌≤◌, Bool, true, false, ◌&&◌, ◌⊎◌, not, cond, List, [], ◌∷◌, ◌++◌, length, map, get_or, ltb, inl, inr, refl, sym, ap, ◌∙◌, arith, All}
-use Rattle.std.specs.List.{filter, prefix_len, range_with_len, count_by}
-use Rattle.std.proofs.lemmas.Bool.{cases_lt, cases_eq, and_parts, ltb-true, le-ltb, both_ways}
+use Rattle.std.proofs.Common.{◌≡◌, ℕ, ◌+◌, ◌-◌, ◌<◌, ◌≤◌, Bool, true, ◌&&◌, not, List, [], length, map, get_or, inl, inr, sym, ap, ◌∙◌, arith, All}
+use Rattle.std.specs.List.{filter, prefix_len, range_with_len}
+use Rattle.std.proofs.lemmas.Bool.{cases_lt, and_parts, ltb-true, le-ltb, both_ways}
 use Rattle.std.proofs.lemmas.List.Elements.{filter_passes, All-weaker, All-map, All-get_or, All-same}
 use Rattle.std.proofs.lemmas.List.FromFn.{length-range_with_len, get_or-range_with_len}
 use Rattle.std.proofs.lemmas.List.Sums.{prefix_len-le-length, prefix_len_passes, prefix_len_stops, length-filter, count_by-le-length}

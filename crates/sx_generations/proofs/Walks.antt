@@ -1,6 +1,6 @@
 -- The walk over a row finds its streaks.
-use Rattle.std.proofs.Common.{◌≡◌, ℕ, zero, suc, ◌+◌, ◌-◌, ◌<◌, ◌≤◌, Bool, true, false, ◌&&◌, ◌⊎◌, not, cond, List, [], ◌∷◌, ◌++◌, length, map, get_or, ltb, inl, inr, refl, sym, ap, ◌∙◌, arith, append-nil}
-use Rattle.std.specs.List.{filter, prefix_len, range_with_len}
+use Rattle.std.proofs.Common.{◌≡◌, ℕ, zero, suc, ◌+◌, ◌-◌, ◌<◌, ◌≤◌, Bool, true, false, ◌&&◌, ◌⊎◌, not, cond, List, [], ◌∷◌, ◌++◌, map, get_or, ltb, inl, inr, refl, sym, ap, ◌∙◌, arith, append-nil}
+use Rattle.std.specs.List.{filter, range_with_len}
 use Rattle.std.proofs.lemmas.Bool.{cases_lt, and_parts, lt-ltb, le-ltb}
 use Rattle.std.proofs.lemmas.List.{map-append}
 use Rattle.std.proofs.lemmas.List.Elements.{filter-append}
@@ -21,7 +21,7 @@ links_are joined count first at from below each stop =
     sym (prefix_len_is (is_followed joined count) (range_with_len first (count - first)) (at - first) 0 (omega arith)
     (λ k inside. ap (is_followed joined count) (get_or-range_with_len first (count - first) k 0 (omega arith)) ∙ each (first + k) (omega arith) (omega arith))
     (λ inside. let here : first + (at - first) ≡ at = omega arith in
-        ap (is_followed joined count) (get_or-range_with_len first (count - first) (at - first) 0 (omega arith) ∙ here) ∙ stop))
+    ap (is_followed joined count) (get_or-range_with_len first (count - first) (at - first) 0 (omega arith) ∙ here) ∙ stop))
 
 -- each of them is followed
 pub links_each : (joined : ℕ → Bool) (count first links : ℕ) → first + links < count → links ≡ links_from joined count first
@@ -99,12 +99,12 @@ fresh_behind joined count at links within is below =
 walked : (joined : ℕ → Bool) (count at links : ℕ) → at + links < count → follows joined at ≡ false → links ≡ links_from joined count at
     → filter (begins joined count) (range_with_len 0 (at + (links + 1))) ≡ filter (begins joined count) (range_with_len 0 at) ++ cond (ltb 0 links) (at ∷ []) []
 walked joined count at links within fresh is =
+    let zeroed : 0 + at ≡ at = omega arith in
+    let next : links + 1 ≡ suc links = omega arith in
     let rest : filter (begins joined count) (range_with_len (at + 1) links) ≡ [] =
     none_pass (begins joined count) (at + 1) links
     (λ k low high. no_begin joined count k (omega arith) (and_parts _ _ (links_each joined count at links within is (k - 1) (omega arith) (omega arith))).1) in
     let some : begins joined count at ≡ ltb 0 links = begin_at joined count at links within fresh is (cases_lt 0 links) in
-    let zeroed : 0 + at ≡ at = omega arith in
-    let next : links + 1 ≡ suc links = omega arith in
     let one : range_with_len (0 + at) (links + 1) ≡ at ∷ range_with_len (at + 1) links =
     ap (λ k. range_with_len k (links + 1)) zeroed ∙ ap (λ k. range_with_len at k) next in
     let here : filter (begins joined count) (at ∷ range_with_len (at + 1) links) ≡ cond (ltb 0 links) (at ∷ []) [] =

@@ -1,5 +1,5 @@
 -- How the runs of a log are kept: their commits stand in one list, those of one run behind those of the runs before it.
-use Rattle.std.specs.Prelude.{◌≡◌, ℕ, ◌+◌, ◌<◌, ◌≤◌, ◌^◌, List, [], length, take, drop, slice_get, All, Option, Some, None}
+use Rattle.std.specs.Prelude.{ℕ, ◌+◌, ◌<◌, ◌≤◌, ◌^◌, List, [], length, take, drop, slice_get, All, Option, Some, None}
 use Rattle.sx_generations.specs.declared.runs.Run.{Run}
 use Rattle.sx_generations.specs.declared.runs.Listed.{Listed}
 

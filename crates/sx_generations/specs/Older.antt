@@ -1,7 +1,7 @@
 -- Runs of frames of older generations in a write-ahead log ("WAL File Format", "Checksum Algorithm"). A log that is begun
 -- again leaves the frames that it hasn't written over yet, and their checksums still go on from one to the next. Slots and
 -- frames are numbered from 0.
-use Rattle.std.specs.Prelude.{◌≡◌, ℕ, ◌+◌, ◌-◌, ◌<◌, ◌≤◌, ◌^◌, Bool, true, false, not, ◌&&◌, ◌==◌, List, length, map, take, drop, slice_get, Some, All}
+use Rattle.std.specs.Prelude.{◌≡◌, ℕ, ◌+◌, ◌-◌, ◌<◌, ◌^◌, Bool, true, false, not, ◌&&◌, ◌==◌, List, length, map, slice_get, Some}
 use Rattle.std.specs.List.{filter, range_with_len}
 use Rattle.sx_base.specs.Bytes.{word_at}
 use Rattle.sx_base.specs.declared.moment.Class.{Class}

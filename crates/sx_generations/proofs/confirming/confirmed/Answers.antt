@@ -15,5 +15,5 @@ pub returns : goal.returns
 returns c =
     IfOk-weaker c.confirmed_by.result _ _
     (λ groups is page_size are.
-        groups_are page_size _ _ _ _ are (sym (c.has_no_header.ensures ∙ ap has_no_header c.state.ensures) ∙ c.if-not-has_no_header.false) (c.page_size_of.ensures.size page_size are) is)
+    groups_are page_size _ _ _ _ are (sym (c.has_no_header.ensures ∙ ap has_no_header c.state.ensures) ∙ c.if-not-has_no_header.false) (c.page_size_of.ensures.size page_size are) is)
     c.confirmed_by.ensures

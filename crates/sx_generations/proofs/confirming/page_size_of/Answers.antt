@@ -1,4 +1,4 @@
-use Rattle.std.proofs.Common.{ℕ, ◌≡◌, ◌+◌, ◌-◌, sym, subst, arith}
+use Rattle.std.proofs.Common.{ℕ, ◌≡◌, ◌-◌, subst, arith}
 use Rattle.sx_generations.specs.Confirmed.{AreRecordsOf}
 use Rattle.sx_generations.proofs.Records.{records_apart}
 use Rattle.sx_generations.proofs.confirming.page_size_of.Goals as goal

@@ -1,6 +1,6 @@
-use Rattle.std.proofs.Common.{ℕ, refl, ◌∙◌, sym, ap, arith, get_or, length, List, ◌++◌}
+use Rattle.std.proofs.Common.{ℕ, refl, ◌∙◌, sym, ap, List, ◌++◌}
 use Rattle.sx_generations.proofs.Streaks.{within_get}
-use Rattle.sx_generations.proofs.Listings.{listing_more, listing_held, listing_all, run_counts, run_commits}
+use Rattle.sx_generations.proofs.Listings.{listing_more, listing_held, run_counts, run_commits}
 use Rattle.sx_generations.proofs.listing.list.Goals as goal
 
 pub list_run-requires-clause-two : goal.list_run-requires-clause-two

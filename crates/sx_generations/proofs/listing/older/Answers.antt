@@ -1,4 +1,4 @@
-use Rattle.std.proofs.Common.{ℕ, ◌≡◌, ◌∙◌, sym, ap}
+use Rattle.std.proofs.Common.{◌∙◌, sym, ap}
 use Rattle.std.proofs.lemmas.Result.{IfOk-weaker}
 use Rattle.sx_wal.specs.Wal.{Wal}
 use Rattle.sx_generations.proofs.Listings.{none_without_slots, runs_are}
@@ -11,5 +11,5 @@ pub returns : goal.returns
 returns c =
     IfOk-weaker c.list.result _ _
     (λ runs is page_size are.
-        runs_are page_size _ _ _ _ _ _ are (c.frames_of.ensures.size page_size are) c.frames_of.ensures.bytes (ap (λ (wal : Wal). wal.slots) c.frames_of.ensures.slots) is)
+    runs_are page_size _ _ _ _ _ _ are (c.frames_of.ensures.size page_size are) c.frames_of.ensures.bytes (ap (λ (wal : Wal). wal.slots) c.frames_of.ensures.slots) is)
     c.list.ensures

@@ -1,7 +1,7 @@
 use Rattle.std.proofs.Common.{Vec, Global, sym, ap, arith, ◌∙◌}
 use Rattle.sx_generations.specs.declared.neighbours.Streak.{Streak}
 use Rattle.sx_generations.specs.Neighbours.{links_from}
-use Rattle.sx_generations.proofs.Walks.{found_more, found_none, found_same, found_all}
+use Rattle.sx_generations.proofs.Walks.{found_more, found_none, found_same}
 use Rattle.sx_generations.proofs.neighbours.streaks.Goals as goal
 use Rattle.sx_generations.proofs.neighbours.streaks.Goals.{then-links-gt0+in_ok-push, else-links-gt0}
 

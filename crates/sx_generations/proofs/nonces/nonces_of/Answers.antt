@@ -1,4 +1,4 @@
-use Rattle.std.proofs.Common.{ℕ, List, ◌∙◌, ap, take, arith}
+use Rattle.std.proofs.Common.{ℕ, List, ◌∙◌, ap, take}
 use Rattle.sx_generations.specs.Confirmed.{nonce_from}
 use Rattle.sx_generations.proofs.Records.{made_next}
 use Rattle.sx_generations.proofs.nonces.nonces_of.Goals as goal
