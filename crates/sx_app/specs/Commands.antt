@@ -7,6 +7,7 @@ use Rattle.sx_page_text.specs.Page.{page_lines}
 use Rattle.sx_timeline_text.specs.Timeline.{timeline_lines}
 use Rattle.sx_words.specs.Words as words
 use Rattle.sx_app.specs.Evidence.{◌>>=◌}
+use Rattle.sx_app.specs.Generations.{generations_of}
 use Rattle.sx_app.specs.Moments.{moment_of, MayMiss}
 use Rattle.sx_app.specs.Tables.{table_lines, MayMissTable}
 use Rattle.sx_app.specs.declared.refused.Refused.{Refused}
@@ -20,9 +21,11 @@ abbrev pub reply_over : words.Question → Gathered → Result (List (List ℕ))
 reply_over words.Timeline case = Ok (timeline_lines case)
 reply_over (words.Show table at) case = moment_of case at >>= λ moment. table_lines case moment table
 reply_over (words.Page number at) case = moment_of case at >>= λ moment. Ok (page_lines case moment number)
+reply_over words.Generations case = Ok (generations_of case)
 
 -- which moments, tables and bytes that aren't there a question may meet: one row a command
 abbrev pub MayMeetOver : words.Question → Refused → Type 0
 MayMeetOver words.Timeline refused = ⊥
 MayMeetOver (words.Show table at) refused = MayMissTable at refused
 MayMeetOver (words.Page number at) refused = MayMiss at refused
+MayMeetOver words.Generations refused = ⊥

@@ -8,6 +8,7 @@ ghost use Rattle.sx_app.specs.Owed.{Gives, IsAnswered};
 ghost use Rattle.sx_app.specs.Stages.{MayMeet, Deciding};
 
 use crate::finish::finish;
+use crate::generations::generations_lines;
 use crate::moments::{moment_meant, snapshot_asked};
 use crate::refused::Refused;
 use crate::tables::show_lines;
@@ -24,7 +25,10 @@ pub fn part_named(question: &Question<'_>) -> Part
     ensures { result ≡ part_named (question_by question.now) }
 {
     match question {
-        Question::Timeline | Question::Show { .. } | Question::Page { .. } => Part::Database,
+        Question::Timeline
+        | Question::Show { .. }
+        | Question::Page { .. }
+        | Question::Generations => Part::Database,
     }
 }
 
@@ -42,6 +46,7 @@ pub fn answer_question<W: Sink>(
         Question::Timeline => finish(alloc, question, Ok(TimelineLines::new(case)), out),
         Question::Show { table, at } => answer_show(alloc, question, case, table, *at, out),
         Question::Page { no, at } => finish(alloc, question, page_lines(case, *no, *at), out),
+        Question::Generations => finish(alloc, question, generations_lines(alloc, case), out),
     }
 }
 

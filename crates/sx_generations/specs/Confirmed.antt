@@ -51,7 +51,6 @@ confirmed_of page_size bytes =
 -- neither is
 pub record AreRecordsOf (page_size : ℕ) (bytes : List ℕ) (journal : Journal) : Type 0 where
   pub size : IsPageSize page_size
-  pub small : length bytes < 2 ^ 32
   pub zeroed : has_no_header journal.state ≡ has_no_header (journal_of (Some bytes) page_size).state
   pub entries : journal.entries ≡ (journal_of (Some bytes) page_size).entries
 

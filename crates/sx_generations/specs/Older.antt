@@ -70,7 +70,6 @@ older_of page_size bytes = map (older_run page_size bytes) (streaks_of (continue
 -- the slots of an index are those of a log with these bytes, read for a database of that page size
 pub record AreSlotsOf (page_size : ℕ) (bytes : List ℕ) (wal : Wal) : Type 0 where
   pub size : IsPageSize page_size
-  pub small : length bytes < 2 ^ 32
   pub slots : wal.slots ≡ (log_of page_size bytes).slots
 
 -- an index was read from these bytes, for a database of some page size

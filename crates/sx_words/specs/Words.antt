@@ -26,6 +26,7 @@ pub data Question : Type 0 where
   Timeline : Question
   Show : (table : List ℕ) → (at : When) → Question
   Page : (number : ℕ) → (at : When) → Question
+  Generations : Question
 
 -- what words can ask for: a question about the evidence of a database's name
 pub data Asked : Type 0 where
@@ -42,13 +43,15 @@ abbrev pub command_named : List ℕ → Option Command
 command_named word =
     if bytes_eq word (codes "timeline") then Some commands.Timeline
     else (if bytes_eq word (codes "show") then Some commands.Show
-    else (if bytes_eq word (codes "page") then Some commands.Page else None))
+    else (if bytes_eq word (codes "page") then Some commands.Page
+    else (if bytes_eq word (codes "generations") then Some commands.Generations else None)))
 
 -- the keys that the words behind a command may set, and which of them they must: one row a command
 abbrev pub keys_of : Command → List Wanted
 keys_of commands.Timeline = []
 keys_of commands.Show = Required Table ∷ Allowed At ∷ []
 keys_of commands.Page = Required No ∷ Allowed At ∷ []
+keys_of commands.Generations = []
 
 -- ---- words that set a key
 
@@ -146,6 +149,7 @@ unfoldable pub question_of : Command → List (List ℕ) → Option Question
 question_of commands.Timeline words = Some Timeline
 question_of commands.Show words = show_of (value_of Table words) (when_of (value_of At words))
 question_of commands.Page words = page_of (page_number_of (value_of No words)) (when_of (value_of At words))
+question_of commands.Generations words = Some Generations
 
 -- what a name, a command and the words behind it ask for
 unfoldable pub command_of : List ℕ → Option Command → List (List ℕ) → Option Asked
@@ -170,6 +174,7 @@ abbrev pub question_by : ReadQuestion → Question
 question_by questions.Timeline = Timeline
 question_by (questions.Show table at) = Show table.now at
 question_by (questions.Page number at) = Page number at
+question_by questions.Generations = Generations
 
 -- what a request asks for, without where its names lie in memory
 abbrev pub asked_by : Request → Asked

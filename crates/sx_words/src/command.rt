@@ -10,6 +10,7 @@ pub enum Command {
     Timeline,
     Show,
     Page,
+    Generations,
 }
 
 /// The command of a word, where it is one.
@@ -20,6 +21,7 @@ pub fn command_named(word: &str) -> Option<Command>
         "timeline" => Some(Command::Timeline),
         "show" => Some(Command::Show),
         "page" => Some(Command::Page),
+        "generations" => Some(Command::Generations),
         _ => None,
     }
 }
@@ -33,6 +35,7 @@ impl Command {
             Command::Timeline => &[],
             Command::Show => &[Wanted::Required(Key::Table), Wanted::Allowed(Key::At)],
             Command::Page => &[Wanted::Required(Key::No), Wanted::Allowed(Key::At)],
+            Command::Generations => &[],
         }
     }
 }

@@ -18,6 +18,8 @@ pub enum Question<'w> {
     Show { table: &'w str, at: When },
     /// `page no=N [at=M]`: page `no`, from 1, at some time.
     Page { no: u32, at: When },
+    /// `generations`: what older generations left in the log, and records behind a zeroed header of the journal.
+    Generations,
 }
 
 /// When: which states of the database a command looks at.
