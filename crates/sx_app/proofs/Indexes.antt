@@ -1,5 +1,5 @@
 -- A log and a journal that were read, or none, have the frames and records of their bytes.
-use Rattle.std.proofs.Common.{◌≡◌, ℕ, List, [], Option, None, Some, refl, sym, ap, ◌∙◌, subst}
+use Rattle.std.proofs.Common.{◌≡◌, ℕ, List, [], Option, None, Some, refl, ap, ◌∙◌}
 use Rattle.sx_bytes.specs.PageSize.{IsPageSize}
 use Rattle.sx_wal.specs.State.{state_of}
 use Rattle.sx_wal.specs.Frames.{slot_count}

@@ -1,4 +1,4 @@
-use Rattle.std.proofs.Common.{◌≡◌, List, ℕ, ◌∙◌, ap}
+use Rattle.std.proofs.Common.{◌∙◌, ap}
 use Rattle.std.proofs.lemmas.Result.{IfOk-weaker}
 use Rattle.sx_generations.specs.Older.{older_of}
 use Rattle.sx_moment.specs.Gathered.{bytes_in}
@@ -15,7 +15,7 @@ pub returns : goal.returns
 returns c =
     IfOk-weaker c.older.result _ _
     (λ runs told.
-        told c.args.case.now.header.page_size
-        (log_at _ _ _ _ _ c.header-header.ensures.ranges.page_size (c.or_empty.ensures ∙ ap bytes_in c.evidence.ensures.wal) c.wal.ensures.wal c.wal.ensures.read)
-        ∙ ap (older_of c.args.case.now.header.page_size) (c.or_empty.ensures ∙ ap bytes_in c.evidence.ensures.wal))
+    told c.args.case.now.header.page_size
+    (log_at _ _ _ _ _ c.header-header.ensures.ranges.page_size (c.or_empty.ensures ∙ ap bytes_in c.evidence.ensures.wal) c.wal.ensures.wal c.wal.ensures.read)
+    ∙ ap (older_of c.args.case.now.header.page_size) (c.or_empty.ensures ∙ ap bytes_in c.evidence.ensures.wal))
     c.older.ensures
