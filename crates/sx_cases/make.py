@@ -104,15 +104,15 @@ def words(*numbers):
     return b"".join(number.to_bytes(4, "big") for number in numbers)
 
 
-def log(big, *frames, page_size=512):
-    """A log with the salts 1 and 2 and these frames: the page, the size where it ends a commit, and the image."""
-    head = words(0x377F0683 if big else 0x377F0682, 3007000, page_size, 0, 1, 2)
+def log(big, *frames, page_size=512, salts=(1, 2)):
+    """A log with these salts and frames: the page, the size where it ends a commit, and the image."""
+    head = words(0x377F0683 if big else 0x377F0682, 3007000, page_size, 0, *salts)
     carried = sums(big, (0, 0), head)
     made = head + words(*carried)
     for page, size, image in frames:
         front = words(page, size)
         carried = sums(big, sums(big, carried, front), image)
-        made += front + words(1, 2) + words(*carried) + image
+        made += front + words(*salts) + words(*carried) + image
     return made
 
 
@@ -192,6 +192,30 @@ def journals():
     write("journal_with_records_exchanged", EMPTY + DELETED[512:], journal=exchanged)
 
 
+def generations():
+    """Logs that were begun again, with the salts 3 and 4, over one with the salts 1 and 2; and zeroed journals."""
+    deleted, replaced = (2, 2, DELETED[512:]), (2, 2, REPLACED[512:])
+    for name, big in (("little", False), ("big", True)):
+        new = log(big, replaced, salts=(3, 4))
+        old = log(big, deleted, replaced, deleted)
+        restarted = new + old[568:]
+        write(f"restarted_{name}", PLAIN, restarted)
+    write("restarted_flipped", PLAIN, changed(restarted, (1200, restarted[1200] ^ 1)))
+    write("restarted_other_magic", PLAIN, log(False, replaced, salts=(3, 4)) + old[568:])
+    five = log(True, (1, 0, FIRST), deleted, (1, 0, FIRST), replaced, deleted)
+    more = new + five[568:]
+    write("restarted_more", PLAIN, more)
+    write("restarted_salt", PLAIN, changed(more, (1651, 3)))
+    zero = log(True, replaced, deleted, (0, 0, FIRST), deleted, replaced)
+    write("restarted_page_0", PLAIN, new + zero[568:])
+    write("log_of_three", PLAIN, changed(log(True, (1, 0, FIRST), deleted, replaced), (31, 0)))
+    zeroed = bytes(28) + JOURNAL[28:1032] + words(1) + FIRST
+    write("confirmed", PLAIN, journal=zeroed + words(17))
+    write("confirmed_not", PLAIN, journal=zeroed + words(18))
+    write("confirmed_twice", PLAIN, journal=zeroed + words(17) + 2 * (words(2) + ROWS + words(18)))
+    write("confirmed_zeros", PLAIN, journal=bytes(512 + 3 * 520))
+
+
 # Two pages in UTF-16le: a table `u` with the texts `aé😀`, and a half of a pair before a single byte.
 UTF_16 = placed(
     (0, changed(PLAIN[:100], (59, 2))),
@@ -250,6 +274,7 @@ if __name__ == "__main__":
     headers_and_sizes()
     logs()
     journals()
+    generations()
     nodes()
     tables()
     labels()

@@ -3,3 +3,4 @@ pub mod Missing
 pub mod Examined
 pub mod Complete
 pub mod Layouts
+pub mod Indexes

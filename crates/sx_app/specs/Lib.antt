@@ -3,6 +3,7 @@ pub mod Moments
 pub mod Refusals
 pub mod Tables
 pub mod GivenTables
+pub mod Generations
 pub mod Commands
 pub mod Answers
 pub mod Stages

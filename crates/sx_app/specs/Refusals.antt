@@ -20,7 +20,7 @@ fault_name faults.Encoding = codes "encoding"
 -- how the program is used, two lines
 abbrev pub usage_lines : List (List ℕ)
 usage_lines =
-    codes "usage: <db> timeline | show table=T [at=M] | map [at=M] | page no=N [at=M] | carve [at=M|all] | explain part=P byte=N [at=M] | report"
+    codes "usage: <db> timeline | show table=T [at=M] | map [at=M] | page no=N [at=M] | carve [at=M|all] [spill=yes|no] | explain part=P byte=N [at=M] | report | generations | history table=T rowid=N"
     ∷ codes "usage: drill seed=N leaves=N commits=N"
     ∷ []
 

@@ -11,6 +11,7 @@ ghost use Rattle.sx_app.specs.Owed.{Gives, IsAnswered};
 ghost use Rattle.sx_app.specs.Stages.{MayMeet, Deciding};
 
 use crate::finish::finish;
+use crate::generations::generations_lines;
 use crate::labels::{explain_lines, headless_lines, images_in, map_lines, roots_at};
 use crate::moments::{moment_meant, snapshot_asked};
 use crate::refused::Refused;
@@ -31,8 +32,11 @@ pub fn part_named(question: &Question<'_>) -> Part
 {
     match question {
         Question::Explain { place, .. } => place.part,
-        Question::Timeline | Question::Show { .. } | Question::Map { .. } | Question::Page { .. } =>
-            Part::Database,
+        Question::Timeline
+        | Question::Show { .. }
+        | Question::Map { .. }
+        | Question::Page { .. }
+        | Question::Generations => Part::Database,
     }
 }
 
@@ -53,6 +57,7 @@ pub fn answer_question<W: Sink>(
         Question::Map { at } => answer_map(alloc, question, case, *at, out),
         Question::Page { no, at } => finish(alloc, question, page_lines(case, *no, *at), out),
         Question::Explain { place, at } => answer_explain(alloc, question, case, *place, *at, out),
+        Question::Generations => finish(alloc, question, generations_lines(alloc, case), out),
     }
 }
 

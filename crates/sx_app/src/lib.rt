@@ -7,6 +7,7 @@ mod database;
 mod evidence;
 mod examination;
 mod finish;
+mod generations;
 mod labels;
 mod loaded;
 mod moments;

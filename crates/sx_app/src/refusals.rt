@@ -17,7 +17,7 @@ use sx_lines::{Unwritten, write_piece};
 
 /// How the program is used.
 const USAGE: &str =
-    "usage: <db> timeline | show table=T [at=M] | map [at=M] | page no=N [at=M] | carve [at=M|all] | explain part=P byte=N [at=M] | report\nusage: drill seed=N leaves=N commits=N\n";
+    "usage: <db> timeline | show table=T [at=M] | map [at=M] | page no=N [at=M] | carve [at=M|all] [spill=yes|no] | explain part=P byte=N [at=M] | report | generations | history table=T rowid=N\nusage: drill seed=N leaves=N commits=N\n";
 
 /// Writes the text of a refusal, and answers how the examination ends: with this refusal, unless its text couldn't be
 /// written. `part` is the part of the evidence that the words name.

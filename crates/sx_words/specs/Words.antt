@@ -32,6 +32,7 @@ pub data Question : Type 0 where
   Map : (at : When) → Question
   Page : (number : ℕ) → (at : When) → Question
   Explain : (place : Place) → (at : When) → Question
+  Generations : Question
 
 -- what words can ask for: a question about the evidence of a database's name
 pub data Asked : Type 0 where
@@ -50,7 +51,8 @@ command_named word =
     else (if bytes_eq word (codes "show") then Some commands.Show
     else (if bytes_eq word (codes "map") then Some commands.Map
     else (if bytes_eq word (codes "page") then Some commands.Page
-    else (if bytes_eq word (codes "explain") then Some commands.Explain else None))))
+    else (if bytes_eq word (codes "explain") then Some commands.Explain
+    else (if bytes_eq word (codes "generations") then Some commands.Generations else None)))))
 
 -- the keys that the words behind a command may set, and which of them they must: one row a command
 abbrev pub keys_of : Command → List Wanted
@@ -59,6 +61,7 @@ keys_of commands.Show = Required Table ∷ Allowed At ∷ []
 keys_of commands.Map = Allowed At ∷ []
 keys_of commands.Page = Required No ∷ Allowed At ∷ []
 keys_of commands.Explain = Required keys.Part ∷ Required keys.Byte ∷ Allowed At ∷ []
+keys_of commands.Generations = []
 
 -- ---- words that set a key
 
@@ -191,6 +194,7 @@ question_of commands.Map words = map_of (when_of (value_of At words))
 question_of commands.Page words = page_of (page_number_of (value_of No words)) (when_of (value_of At words))
 question_of commands.Explain words =
     explain_of (byte_of (part_of (value_of keys.Part words)) (offset_of (value_of keys.Byte words))) (when_of (value_of At words))
+question_of commands.Generations words = Some Generations
 
 -- what a name, a command and the words behind it ask for
 unfoldable pub command_of : List ℕ → Option Command → List (List ℕ) → Option Asked
@@ -217,6 +221,7 @@ question_by (questions.Show table at) = Show table.now at
 question_by (questions.Map at) = Map at
 question_by (questions.Page number at) = Page number at
 question_by (questions.Explain place at) = Explain place at
+question_by questions.Generations = Generations
 
 -- what a request asks for, without where its names lie in memory
 abbrev pub asked_by : Request → Asked

@@ -12,6 +12,7 @@ pub enum Command {
     Map,
     Page,
     Explain,
+    Generations,
 }
 
 /// The command of a word, where it is one.
@@ -24,6 +25,7 @@ pub fn command_named(word: &str) -> Option<Command>
         "map" => Some(Command::Map),
         "page" => Some(Command::Page),
         "explain" => Some(Command::Explain),
+        "generations" => Some(Command::Generations),
         _ => None,
     }
 }
@@ -43,6 +45,7 @@ impl Command {
                 Wanted::Required(Key::Byte),
                 Wanted::Allowed(Key::At),
             ],
+            Command::Generations => &[],
         }
     }
 }

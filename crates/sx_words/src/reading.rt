@@ -16,10 +16,10 @@ const GREATEST: u64 = 4_294_967_295;
 /// Reads the words after the program's name.
 ///
 /// They are `<db> <command>` and words `key=value`, split at their first `=`. `<db>` isn't empty and isn't the word
-/// `drill`, which is kept for a command that reads no file. The commands are `timeline`, which has no key; `show` with its
-/// keys `table`, which is required, and `at`; `map` with its key `at`; `page` with its keys `no`, from 1 to 4294967295, which
-/// is required, and `at`; and `explain` with its keys `part`, which is `database`, `wal` or `journal`, and `byte`, from 0 to
-/// 18446744073709551615, which are both required, and `at`. `at` is `journal` or from 0 to 4294967295.
+/// `drill`, which is kept for a command that reads no file. The commands are `timeline` and `generations`, which have no key;
+/// `show` with its keys `table`, which is required, and `at`; `map` with its key `at`; `page` with its keys `no`, from 1 to
+/// 4294967295, which is required, and `at`; and `explain` with its keys `part`, which is `database`, `wal` or `journal`, and
+/// `byte`, from 0 to 18446744073709551615, which are both required, and `at`. `at` is `journal` or from 0 to 4294967295.
 /// The keys come in any order, each at most once. A number is `0` or decimal digits that don't begin with 0.
 ///
 /// Every other list of words is outside the grammar, and `Usage` comes exactly there. The request borrows its names from
@@ -78,6 +78,7 @@ fn read_question<'w>(command: Command, words: &'w [String]) -> Option<Question<'
             ),
             when(value_of(Key::At, words)),
         ),
+        Command::Generations => Some(Question::Generations),
     }
 }
 

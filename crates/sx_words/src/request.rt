@@ -22,6 +22,8 @@ pub enum Question<'w> {
     Page { no: u32, at: When },
     /// `explain part=P byte=N [at=M]`: what a byte of one of the files is, and what at some time.
     Explain { place: Place, at: When },
+    /// `generations`: what older generations left in the log, and records behind a zeroed header of the journal.
+    Generations,
 }
 
 /// When: which states of the database a command looks at.

@@ -1,0 +1,5 @@
+mod Listings
+mod Logs
+mod Records
+mod Streaks
+mod Walks

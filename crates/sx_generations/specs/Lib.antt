@@ -1,0 +1,4 @@
+pub mod Confirmed
+pub mod Listing
+pub mod Neighbours
+pub mod Older
