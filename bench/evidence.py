@@ -131,6 +131,28 @@ def share_chain(path, cells, chain, page_size=4096):
             file.write((first + i + 1 if i + 1 < chain else 0).to_bytes(4, "big").ljust(page_size, b"\0"))
 
 
+def overlap_cells(path, cells, page_size=65536):
+    """A database whose table `t` has so many cells, 10,900 a leaf. Each begins at one of 3,600 places in no order, and holds
+    half of its page, so that the cells of a leaf lie on one another."""
+    text = b"CREATE TABLE t(a)"
+    record = bytes((6, 23, 15, 15, 1, 13 + 2 * len(text))) + b"tablett\x02" + text
+    entry = varint(len(record)) + b"\x01" + record
+    leaves = -(-cells // 10_900)
+    first = 21_810
+    pointers = [first + i * 7919 % 3600 * 3 for i in range(10_900)]
+    # From each place on stand a length of 32,769 bytes and a rowid, both of three bytes.
+    piece = bytes((0x82, 0x80, 0x01)) * 3602
+    with open(path, "wb") as file:
+        place = page_size - len(entry)
+        file.write(node(page_size, 13, [place], [(place, entry)], header(page_size, 2 + leaves)))
+        inner = [(page_size - 5 * (i + 1), (3 + i).to_bytes(4, "big") + b"\x01") for i in range(leaves)]
+        right = (2 + leaves).to_bytes(4, "big")
+        file.write(node(page_size, 5, [at for at, _ in inner[:-1]] or [page_size - 5], inner[:-1], right=right))
+        leaf_page = node(page_size, 13, pointers, [(first, piece)])
+        for _ in range(leaves):
+            file.write(leaf_page)
+
+
 def remove(path):
     for ending in ("", "-wal", "-shm", "-journal"):
         Path(f"{path}{ending}").unlink(missing_ok=True)
