@@ -1,5 +1,6 @@
 mod Listings
 mod Logs
+mod Maximals
 mod Records
 mod Streaks
 mod Walks
