@@ -1,6 +1,6 @@
 mod Listings
-mod Logs
+pub mod Logs
 mod Maximals
-mod Records
+pub mod Records
 mod Streaks
 mod Walks

@@ -5,7 +5,7 @@ use Rattle.std.proofs.lemmas.Bool.{cases_Bool, ltb-false, eqb-true}
 use Rattle.std.proofs.lemmas.List.FromFn.{length-map-range_with_len, get_or-map-range_with_len}
 use Rattle.std.proofs.lemmas.Option.{slice_get_within, get_or_from_slice_get}
 use Rattle.sx_base.specs.Bytes.{word_at}
-use Rattle.sx_bytes.specs.PageSize.{is_page_size}
+use Rattle.sx_bytes.specs.PageSize.{IsPageSize, is_page_size}
 use Rattle.sx_base.specs.declared.moment.Class.TheVariants.{Committed, Pending, Foreign, Broken}
 use Rattle.sx_wal.specs.declared.slot.Slot.{Slot}
 use Rattle.sx_wal.specs.declared.state.WalState.{WalState}
