@@ -1,5 +1,6 @@
 mod Listings
-mod Logs
-mod Records
+pub mod Logs
+mod Maximals
+pub mod Records
 mod Streaks
 mod Walks

@@ -5,14 +5,14 @@ use Rattle.std.proofs.lemmas.Bool.{cases_Bool, ltb-false, eqb-true}
 use Rattle.std.proofs.lemmas.List.FromFn.{length-map-range_with_len, get_or-map-range_with_len}
 use Rattle.std.proofs.lemmas.Option.{slice_get_within, get_or_from_slice_get}
 use Rattle.sx_base.specs.Bytes.{word_at}
-use Rattle.sx_bytes.specs.PageSize.{is_page_size}
+use Rattle.sx_bytes.specs.PageSize.{IsPageSize, is_page_size}
 use Rattle.sx_base.specs.declared.moment.Class.TheVariants.{Committed, Pending, Foreign, Broken}
 use Rattle.sx_wal.specs.declared.slot.Slot.{Slot}
 use Rattle.sx_wal.specs.declared.state.WalState.{WalState}
 use Rattle.sx_wal.specs.declared.state.WalState.TheVariants.{Short, BadMagic, BadVersion, BadPageSize, OtherPageSize, BadHeaderSum, Good}
 use Rattle.sx_wal.specs.State.{state_of, has_slots, has_magic, are_same, two_words_at, header_sums}
 use Rattle.sx_wal.specs.Frames.{whole_frames, slot_count, has_salts, is_valid}
-use Rattle.sx_wal.specs.Wal.{Wal, commits_of, is_within, class_past, class_of, slot_of, log_of}
+use Rattle.sx_wal.specs.Wal.{Wal, commits_of, is_within, class_past, class_of, slot_of, log_of, wal_of}
 use Rattle.sx_wal.proofs.LogLemmas.{slot_stands}
 use Rattle.sx_generations.specs.Older.{AreSlotsOf, AreTestedFrames, is_valid_class}
 
@@ -79,3 +79,9 @@ tested_frames page_size bytes wal are = record {
         tested = ap (λ (s : Slot). is_valid_class s.class) is ∙ class_says page_size bytes i;
       };
 }
+
+-- a log that was read is the index of its bytes
+pub was_log : (page_size : ℕ) (bytes own : List ℕ) (wal : Wal) → IsPageSize page_size → wal ≡ wal_of (Some bytes) page_size → own ≡ bytes → IsLog own wal
+unfolding wal_of
+was_log page_size bytes own wal size read same =
+    rw same (record { page_size = page_size; are = record { size = size; slots = ap (λ (w : Wal). w.slots) read } })

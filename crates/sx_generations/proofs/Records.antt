@@ -7,6 +7,7 @@ use Rattle.std.proofs.lemmas.List.Elements.{All-weaker, All-same}
 use Rattle.std.proofs.lemmas.List.FromFn.{length-map-range_with_len, get_or-map-range_with_len}
 use Rattle.std.proofs.lemmas.Option.{slice_get-map, slice_get_within, slice_get-get_or, get_or_from_slice_get}
 use Rattle.sx_base.specs.declared.moment.Class.TheVariants.{Unchecked}
+use Rattle.sx_bytes.specs.PageSize.{IsPageSize}
 use Rattle.sx_journal.specs.declared.entry.Entry.{Entry}
 use Rattle.sx_journal.specs.declared.state.JournalState.{JournalState}
 use Rattle.sx_journal.specs.declared.state.JournalState.TheVariants.{Short, Zeroed, Alien}
@@ -18,7 +19,7 @@ use Rattle.sx_journal.proofs.Held.{journal_held}
 use Rattle.sx_generations.specs.declared.neighbours.Streak.{Streak}
 use Rattle.sx_generations.specs.declared.groups.Group.{Group}
 use Rattle.sx_generations.specs.Neighbours.{streaks_of}
-use Rattle.sx_generations.specs.Confirmed.{has_no_header, nonce_of, confirms, group_of, groups_of, groups_in, confirmed_of, AreRecordsOf}
+use Rattle.sx_generations.specs.Confirmed.{has_no_header, nonce_of, confirms, group_of, groups_of, groups_in, confirmed_of, AreRecordsOf, IsJournal}
 use Rattle.sx_generations.proofs.Streaks.{few_streaks, none_of_one}
 
 -- ---- where the records stand
@@ -150,3 +151,17 @@ made_few nonces n streaks groups so_far are few =
     let all = ap (λ xs. length xs) are in
     let part = length-take n streaks in
     omega arith
+
+-- ---- a journal that was read is the index of its bytes
+
+pub was_journal : (page_size : ℕ) (bytes own : List ℕ) (journal : Journal) → IsPageSize page_size → journal ≡ journal_of (Some bytes) page_size → own ≡ bytes → IsJournal own journal
+was_journal page_size bytes own journal size read same =
+    rw same
+    (record {
+      page_size = page_size;
+      are = record {
+        size = size;
+        zeroed = ap (λ (j : Journal). has_no_header j.state) read;
+        entries = ap (λ (j : Journal). j.entries) read;
+      };
+    })

@@ -49,7 +49,8 @@ pub record IsWithin (count : ℕ) (streak : Streak) : Type 0 where
   pub two : 2 ≤ streak.len
   pub within : streak.first + streak.len ≤ count
 
-within_at : (joined : ℕ → Bool) (count at : ℕ) → begins joined count at ≡ true → IsWithin count (streak_at joined count at)
+-- the one that begins at a place is
+pub within_at : (joined : ℕ → Bool) (count at : ℕ) → begins joined count at ≡ true → IsWithin count (streak_at joined count at)
 within_at joined count at begin =
     let followed = (and_parts (is_followed joined count at) _ begin).0 in
     let below = ltb-true (at + 1) count (and_parts _ _ followed).0 in

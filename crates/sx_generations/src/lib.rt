@@ -5,6 +5,7 @@
 mod confirming;
 mod continuing;
 mod groups;
+mod laws;
 mod listing;
 mod neighbours;
 mod nonces;
@@ -12,5 +13,9 @@ mod runs;
 
 pub use confirming::confirmed;
 pub use groups::{Confirmed, Group};
+pub use laws::streaks_by_rules;
 pub use listing::older;
 pub use runs::{Older, Run};
+
+#[cfg(test)]
+mod tests;

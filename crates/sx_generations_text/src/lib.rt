@@ -6,3 +6,6 @@ mod generations_line;
 mod texts;
 
 pub use generations::GenerationsLines;
+
+#[cfg(test)]
+mod tests;
