@@ -8,7 +8,7 @@ use Rattle.sx_owned.specs.Spans.{in_span}
 use Rattle.sx_sweep.specs.Growth.{nowhere, Grows, Growing}
 use Rattle.sx_sweep.specs.Told.{run_owns, only_in}
 
-or_false : (b : Bool) → (b || false) ≡ b
+pub or_false : (b : Bool) → (b || false) ≡ b
 or_false true = refl
 or_false false = refl
 

@@ -1,2 +1,4 @@
 pub mod GrowthLemmas
 pub mod RunLemmas
+pub mod PageLemmas
+pub mod WalkLemmas

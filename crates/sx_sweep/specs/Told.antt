@@ -1,5 +1,5 @@
 -- The same as a table of references tells it. No definition of an answer goes through it.
-use Rattle.std.specs.Prelude.{◌≡◌, ℕ, zero, suc, ◌+◌, ◌-◌, ◌≤◌, ◌&&◌, ◌==◌, Bool, false, List, [], ◌∷◌, Option, Some, None}
+use Rattle.std.specs.Prelude.{◌≡◌, ℕ, zero, suc, ◌+◌, ◌-◌, ◌≤◌, ◌&&◌, ◌==◌, Bool, false, List, [], ◌∷◌, length, Option, Some, None}
 use Rattle.std.specs.List.{list_any, range_with_len}
 use Rattle.sx_base.specs.Labels.{is_owning}
 use Rattle.sx_base.specs.declared.evidence.Place.{Place}
@@ -11,7 +11,11 @@ use Rattle.sx_closure.specs.declared.pair.Target.{Target}
 use Rattle.sx_closure.specs.Tallying.{Table, one_at}
 use Rattle.sx_prov.specs.Keys.{table_labels}
 use Rattle.sx_owned.specs.Spans.{in_span}
+use Rattle.sx_moment.specs.Gathered.{Gathered}
+use Rattle.sx_moment.specs.Heads.{IsLayout}
+use Rattle.sx_owned.specs.Owned.{Owned, images_of as owned_images}
 use Rattle.sx_images.specs.declared.image.Image.{Image}
+use Rattle.sx_images.specs.Images.{Table as ImageTable, images_of}
 use Rattle.sx_sweep.specs.Owning.{is_viewed, one_begins, role_begins}
 
 -- the label of a byte is one of those of what the database uses
@@ -53,3 +57,11 @@ told_begins table layout view source images image at page =
 -- some page above a number, up to a size, passes
 unfoldable pub any_above : (ℕ → Bool) → ℕ → ℕ → Bool
 any_above passes after size = list_any passes (range_with_len (after + 1) (size - after))
+
+-- what the pages of a moment are gone over with: its layout, images of its page size, and what is known of these images
+pub record IsSwept (case : Gathered) (layout : Layout) (images : ImageTable) (owned : Owned) : Type 0 where
+  pub layout_is : IsLayout layout
+  pub pages : layout.page_size ≡ case.header.page_size
+  pub same : images.page_size ≡ layout.page_size
+  pub size : owned.page_size ≡ layout.page_size
+  pub count : owned_images owned ≡ length (images_of images)

@@ -1,4 +1,9 @@
 //! Which bytes of page images are owned under some moments, and where freeblocks begin.
 #![tactic(auto)]
 
-pub mod page;
+mod moment;
+mod page;
+mod pages;
+mod sweeping;
+
+pub use sweeping::sweep;
