@@ -1,9 +1,9 @@
 -- Owned bytes and freeblocks, added up.
-use Rattle.std.proofs.Common.{◌≡◌, ℕ, ◌+◌, Bool, true, false, ◌||◌, ◌&&◌, ◌==◌, List, [], ◌∷◌, refl, sym, ap, ◌∙◌}
+use Rattle.std.proofs.Common.{◌≡◌, ℕ, Bool, true, false, ◌||◌, ◌&&◌, ◌==◌, refl, sym, ap, ◌∙◌}
 use Rattle.sx_base.specs.Labels.{is_owning}
 use Rattle.sx_base.specs.declared.evidence.Span.{Span}
 use Rattle.sx_base.specs.declared.label.Label.{Label}
-use Rattle.sx_owned.specs.Owned.{Owned, images_of, owned_at, block_at, Owns, Begins}
+use Rattle.sx_owned.specs.Owned.{Owned, owned_at, block_at, Owns, Begins}
 use Rattle.sx_owned.specs.Spans.{in_span}
 use Rattle.sx_sweep.specs.Growth.{nowhere, Grows, Growing}
 use Rattle.sx_sweep.specs.Told.{run_owns, only_in}

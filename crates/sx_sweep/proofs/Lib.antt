@@ -2,3 +2,4 @@ pub mod GrowthLemmas
 pub mod RunLemmas
 pub mod PageLemmas
 pub mod WalkLemmas
+pub mod SweepLemmas

@@ -1,5 +1,5 @@
 -- The pages of a moment, one after the other, and the images that are their views.
-use Rattle.std.proofs.Common.{◌≡◌, ◌↔◌, ℕ, zero, suc, ◌+◌, ◌-◌, ◌<◌, ◌≤◌, Bool, true, false, ◌||◌, ◌&&◌, ◌==◌, eqb-true, eq-eqb, List, [], ◌∷◌, length, map, is_some, slice_get, Option, Some, None, refl, sym, ap, subst, ◌∙◌, arith}
+use Rattle.std.proofs.Common.{◌≡◌, ◌↔◌, ℕ, zero, suc, ◌+◌, ◌-◌, ◌<◌, ◌≤◌, Bool, true, false, ◌||◌, ◌&&◌, ◌==◌, eqb-true, eq-eqb, List, length, is_some, slice_get, Option, Some, None, refl, sym, ap, ◌∙◌, arith}
 use Rattle.std.specs.List.{list_any, range_with_len}
 use Rattle.std.specs.Option.{option_map}
 use Rattle.std.proofs.lemmas.Option.{slice_get_within}
@@ -8,7 +8,7 @@ use Rattle.sx_base.specs.declared.evidence.Part.TheVariants.{Database, Wal, Jour
 use Rattle.sx_base.specs.declared.evidence.Place.{Place}
 use Rattle.sx_base.specs.Held.{held_after}
 use Rattle.sx_base.proofs.HeldPages.{next_held, none_held}
-use Rattle.sx_moment.specs.Gathered.{Gathered, size_at}
+use Rattle.sx_moment.specs.Gathered.{Gathered}
 use Rattle.sx_base.specs.declared.moment.Moment.{Moment}
 use Rattle.sx_moment.specs.Views.{origin_of, view_of, source_of, bytes_of, place_of}
 use Rattle.sx_moment.specs.declared.origin.Origin.{Origin}

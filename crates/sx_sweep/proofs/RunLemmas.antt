@@ -1,12 +1,12 @@
 -- The runs of a map and the blocks of a page, one after the other.
-use Rattle.std.proofs.Common.{◌≡◌, ℕ, zero, suc, ◌+◌, ◌-◌, ◌<◌, ◌≤◌, Bool, true, false, ◌||◌, ◌&&◌, ◌==◌, nat_le, nat_lt, List, [], ◌∷◌, ◌++◌, length, replicate, refl, sym, ap, subst, ◌∙◌, arith, length-append}
+use Rattle.std.proofs.Common.{◌≡◌, ℕ, zero, suc, ◌+◌, ◌-◌, ◌<◌, ◌≤◌, Bool, true, false, ◌||◌, ◌&&◌, ◌==◌, nat_lt, List, [], ◌∷◌, ◌++◌, length, replicate, refl, sym, ap, subst, ◌∙◌, arith, length-append}
 use Rattle.std.proofs.lemmas.Bool.Decides.{nat_tests}
 use Rattle.std.proofs.lemmas.List.{length-replicate}
 use Rattle.std.specs.List.{AllByRecursion}
 use Rattle.sx_base.specs.Labels.{is_owning}
 use Rattle.sx_base.specs.declared.evidence.Span.{Span}
 use Rattle.sx_base.specs.declared.label.Label.{Label}
-use Rattle.sx_owned.specs.Owned.{Owned, images_of, Begins}
+use Rattle.sx_owned.specs.Owned.{Owned, Begins}
 use Rattle.sx_owned.specs.Spans.{in_span}
 use Rattle.sx_prov.specs.Runs.{runs_of, AreRuns}
 use Rattle.sx_prov.proofs.Maximal.{runs_are}

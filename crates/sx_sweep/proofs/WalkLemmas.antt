@@ -1,5 +1,5 @@
 -- What the pages of a moment own together.
-use Rattle.std.proofs.Common.{◌≡◌, ℕ, ℤ, zero, suc, ◌+◌, ◌-◌, ◌<◌, ◌≤◌, Bool, true, false, ◌||◌, ◌&&◌, ◌==◌, nat_lt, List, [], ◌∷◌, length, map, is_some, Option, Some, None, Result, Ok, Err, refl, sym, ap, subst, ◌∙◌, arith}
+use Rattle.std.proofs.Common.{◌≡◌, ℕ, ℤ, zero, suc, ◌+◌, ◌-◌, ◌≤◌, Bool, true, false, ◌||◌, ◌&&◌, ◌==◌, nat_lt, List, [], ◌∷◌, length, map, is_some, Option, Some, None, Result, Ok, Err, refl, sym, ap, ◌∙◌, arith}
 use Rattle.std.specs.Prelude.{OnOk}
 use Rattle.std.specs.List.{list_any, range_with_len}
 use Rattle.std.proofs.lemmas.Bool.Decides.{nat_tests}
@@ -10,11 +10,12 @@ use Rattle.sx_base.specs.declared.label.Label.{Label}
 use Rattle.sx_base.specs.declared.layout.Layout.{Layout}
 use Rattle.sx_base.specs.declared.moment.Moment.{Moment}
 use Rattle.sx_moment.specs.Gathered.{Gathered, size_at}
-use Rattle.sx_moment.specs.Heads.{layout_of, encoding_at}
+use Rattle.sx_header.specs.declared.header.Header.{Header}
+use Rattle.sx_moment.specs.Heads.{head_of, layout_by, layout_of, encoding_at}
 use Rattle.sx_moment.specs.Views.{view_of, source_of}
 use Rattle.sx_schema.specs.Entries.{schema_of, roots_of}
 use Rattle.sx_closure.specs.Tallying.{Table, one_at, IsTableOf}
-use Rattle.sx_closure.specs.Graph.{Graph, references_to, only}
+use Rattle.sx_closure.specs.Graph.{Graph}
 use Rattle.sx_refs.specs.Pages.{graph_of}
 use Rattle.sx_prov.specs.Labels.{label_of, labels_of}
 use Rattle.sx_prov.specs.Keys.{table_labels}
@@ -155,6 +156,14 @@ any_all : (p : ℕ → Bool) (size : ℕ) → any_above p 0 size ≡ list_any p 
 unfolding any_above
 any_all p size = let same : size - 0 ≡ size = omega arith in ap (λ n. list_any p (range_with_len 1 n)) same
 
+size_by : (case : Gathered) (size : ℕ) (head : Option Header) → (layout_by case size head).page_size ≡ case.header.page_size
+size_by case size None = refl
+size_by case size (Some head) = refl
+
+-- the layout has the page size of the file
+pub same_size : (case : Gathered) (moment : Moment) (layout : Layout) → layout ≡ layout_of case moment → case.header.page_size ≡ layout.page_size
+same_size case moment layout is = sym (ap (λ (l : Layout). l.page_size) is ∙ size_by case (size_at case moment) (head_of case moment))
+
 -- all pages of a moment, by what refers to what there
 pub moment_pages : (table : Table) (layout : Layout) (case : Gathered) (moment : Moment) (images : List Image) (roots : List ℤ) (old new : Owned)
     → Whole (view_of case moment) layout → IsTableOf (graph_of (size_at case moment) (view_of case moment) layout roots) (layout.usable - 4) table
@@ -173,14 +182,14 @@ moment_pages table layout case moment images roots old new whole is layout_is ro
     (λ image at. list_any (page_begins (graph_at case moment) (layout_of case moment) view source images image at) pages)
     grows
     (λ image at.
-        any_all (told_owns table layout view source images image at) size
-        ∙ any_same (told_owns table layout view source images image at) (page_owns (graph_of size view layout roots) layout view source images image at) pages
-        (λ page. owns_is size table layout view source images roots image at page whole is)
-        ∙ ap (λ list. list_any (page_owns (graph_of size view layout list) layout view source images image at) pages) roots_are
-        ∙ ap (λ (l : Layout). list_any (page_owns (graph_of size view l (roots_of (schema_of size view l.usable (encoding_at case moment)))) l view source images image at) pages) layout_is)
+    any_all (told_owns table layout view source images image at) size
+    ∙ any_same (told_owns table layout view source images image at) (page_owns (graph_of size view layout roots) layout view source images image at) pages
+    (λ page. owns_is size table layout view source images roots image at page whole is)
+    ∙ ap (λ list. list_any (page_owns (graph_of size view layout list) layout view source images image at) pages) roots_are
+    ∙ ap (λ (l : Layout). list_any (page_owns (graph_of size view l (roots_of (schema_of size view l.usable (encoding_at case moment)))) l view source images image at) pages) layout_is)
     (λ image at.
-        any_all (told_begins table layout view source images image at) size
-        ∙ any_same (told_begins table layout view source images image at) (page_begins (graph_of size view layout roots) layout view source images image at) pages
-        (λ page. begins_is size table layout view source images roots image at page is)
-        ∙ ap (λ list. list_any (page_begins (graph_of size view layout list) layout view source images image at) pages) roots_are
-        ∙ ap (λ (l : Layout). list_any (page_begins (graph_of size view l (roots_of (schema_of size view l.usable (encoding_at case moment)))) l view source images image at) pages) layout_is)
+    any_all (told_begins table layout view source images image at) size
+    ∙ any_same (told_begins table layout view source images image at) (page_begins (graph_of size view layout roots) layout view source images image at) pages
+    (λ page. begins_is size table layout view source images roots image at page is)
+    ∙ ap (λ list. list_any (page_begins (graph_of size view layout list) layout view source images image at) pages) roots_are
+    ∙ ap (λ (l : Layout). list_any (page_begins (graph_of size view l (roots_of (schema_of size view l.usable (encoding_at case moment)))) l view source images image at) pages) layout_is)

@@ -2,7 +2,7 @@
 -- some of the moments has a header, has the image as the view of a page, and there the byte is one that the database uses.
 -- A freeblock begins where some of them has the image as the view of a b-tree page that one reference leads to, and a block
 -- of that page's freeblock chain begins there ("B-tree Pages").
-use Rattle.std.specs.Prelude.{ℕ, ◌&&◌, ◌==◌, nat_lt, Bool, false, List, [], slice_get, Option, Some, None, Result, Ok, Err}
+use Rattle.std.specs.Prelude.{ℕ, ◌&&◌, ◌==◌, nat_lt, Bool, false, List, slice_get, Option, Some, None, Result, Ok, Err}
 use Rattle.std.specs.List.{list_any, range_with_len}
 use Rattle.sx_base.specs.Labels.{is_owning}
 use Rattle.sx_base.specs.declared.evidence.Place.{Place}

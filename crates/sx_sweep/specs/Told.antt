@@ -7,7 +7,6 @@ use Rattle.sx_base.specs.declared.evidence.Span.{Span}
 use Rattle.sx_base.specs.declared.label.Label.{Label}
 use Rattle.sx_base.specs.declared.layout.Layout.{Layout}
 use Rattle.sx_base.specs.declared.role.Role.{Role}
-use Rattle.sx_closure.specs.declared.pair.Target.{Target}
 use Rattle.sx_closure.specs.Tallying.{Table, one_at}
 use Rattle.sx_prov.specs.Keys.{table_labels}
 use Rattle.sx_owned.specs.Spans.{in_span}

@@ -28,12 +28,7 @@ pub fn add_map(map: &PageMap, image: u32, owned: &mut OwnedRuns) -> Result<(), A
 
 /// Adds a run of bytes of an image, where its label is one of what the database uses.
 #[tactic(auto, using(crate::proofs::GrowthLemmas::run_grows, crate::proofs::GrowthLemmas::no_run_grows))]
-fn add_run(
-    image: u32,
-    span: Span,
-    label: Label,
-    owned: &mut OwnedRuns,
-) -> Result<(), AllocError>
+fn add_run(image: u32, span: Span, label: Label, owned: &mut OwnedRuns) -> Result<(), AllocError>
     requires image { image < images_of owned.old }
     requires within { span.start + span.len ≤ owned.old.page_size }
     ensures { OnOk result (Grows owned.old owned.new (only_in image (run_owns (span, label))) nowhere) }

@@ -1,7 +1,4 @@
-use Rattle.std.proofs.Common.{sym, subst}
-use Rattle.std.specs.List.{AllByRecursion}
 use Rattle.sx_node.specs.Freeblocks.{freeblocks_of}
-use Rattle.sx_node.proofs.Walks.{IsBlock}
 use Rattle.sx_sweep.proofs.RunLemmas.{chain_start, chain_step, chain_end, chain_within, chain_rest}
 use Rattle.sx_sweep.proofs.page.add_chain.Goals as goal
 
@@ -14,8 +11,8 @@ loop-block-init c = record {
 pub loop-block-preserved : goal.loop-block-preserved
 loop-block-preserved c = record {
   growing =
-    chain_step c.args.owned.now c.loop-block.owned c.block.new.self c.args.image (freeblocks_of c.args.node.now) c.in-Some.block c.loop-block.blocks c.next.new.self
-    c.in-Some.ensures.steps c.loop-block.invariant.growing c.in_ok-block.ensures.ok;
+      chain_step c.args.owned.now c.loop-block.owned c.block.new.self c.args.image (freeblocks_of c.args.node.now) c.in-Some.block c.loop-block.blocks c.next.new.self
+      c.in-Some.ensures.steps c.loop-block.invariant.growing c.in_ok-block.ensures.ok;
   within = (chain_rest c.args.node.now.usable c.in-Some.block c.loop-block.blocks c.next.new.self c.in-Some.ensures.steps c.loop-block.invariant.within).1;
 }
 

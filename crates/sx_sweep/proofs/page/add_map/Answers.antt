@@ -1,5 +1,3 @@
-use Rattle.std.proofs.Common.{subst}
-use Rattle.sx_sweep.specs.Told.{RunsIn}
 use Rattle.sx_sweep.proofs.RunLemmas.{map_within, map_start, map_step, map_end, within_rest}
 use Rattle.sx_sweep.proofs.page.add_map.Goals as goal
 
@@ -12,8 +10,8 @@ loop-span-init c = record {
 pub loop-span-preserved : goal.loop-span-preserved
 loop-span-preserved c = record {
   growing =
-    map_step c.args.owned.now c.loop-span.owned c.add_run.new.owned c.args.image c.args.map.now (c.in-Some.span, c.in-Some.label) c.loop-span.runs c.next.new.self
-    c.in-Some.ensures.steps c.loop-span.invariant.growing c.in_ok-add_run.ensures;
+      map_step c.args.owned.now c.loop-span.owned c.add_run.new.owned c.args.image c.args.map.now (c.in-Some.span, c.in-Some.label) c.loop-span.runs c.next.new.self
+      c.in-Some.ensures.steps c.loop-span.invariant.growing c.in_ok-add_run.ensures;
   within = within_rest c.args.owned.now.page_size (c.in-Some.span, c.in-Some.label) c.loop-span.runs c.next.new.self c.in-Some.ensures.steps c.loop-span.invariant.within;
 }
 

@@ -1,8 +1,7 @@
 -- The image that is the page's view is the one that is found.
-use Rattle.std.proofs.Common.{◌<◌, sym, ap, subst, ◌∙◌, arith}
+use Rattle.std.proofs.Common.{◌<◌, sym, ap, ◌∙◌, arith}
 use Rattle.sx_images.specs.Images.{images_of}
 use Rattle.sx_moment.specs.Views.{view_of, source_of}
-use Rattle.sx_owned.specs.Owned.{images_of as owned_images}
 use Rattle.sx_sweep.specs.Owning.{is_viewed}
 use Rattle.sx_sweep.proofs.PageLemmas.{found_only, found_there, found_none}
 use Rattle.sx_sweep.proofs.WalkLemmas.{page_none, page_grows, on_ok}

@@ -22,8 +22,8 @@ loop-no-preserved c =
     record {
       within = next.1;
       growing =
-        pages_step c.args.refs.now c.args.layout.now case moment (images_of c.args.images.now) c.args.owned.now c.loop-no.owned c.add_page.new.owned c.loop-no.after c.in-Some.no (sym c.in-Some.ensures)
-        c.loop-no.invariant.growing c.in_ok-add_page.ensures;
+          pages_step c.args.refs.now c.args.layout.now case moment (images_of c.args.images.now) c.args.owned.now c.loop-no.owned c.add_page.new.owned c.loop-no.after c.in-Some.no (sym c.in-Some.ensures)
+          c.loop-no.invariant.growing c.in_ok-add_page.ensures;
     }
 
 pub returns : goal.returns
