@@ -7,3 +7,6 @@ mod pages;
 mod sweeping;
 
 pub use sweeping::sweep;
+
+#[cfg(test)]
+mod tests;
