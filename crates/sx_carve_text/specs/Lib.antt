@@ -1,0 +1,2 @@
+pub mod Carve
+pub mod Rest

@@ -1,0 +1,61 @@
+//! What one page of a small database owns.
+use super::*;
+use std::test::Fail;
+use sx_base::{Moment, Span};
+use sx_bytes::can_be_page_size;
+use sx_header::read_header;
+use sx_images::{Lengths, images};
+use sx_journal::read_journal;
+use sx_moment::{Case, Evidence};
+use sx_wal::read_wal;
+
+/// A page 1 of 512 bytes that is a table leaf without cells, with a freeblock of 20 bytes at 300.
+fn first_page() -> [u8; 512] {
+    let mut page = [0u8; 512];
+    page[..24].copy_from_slice(b"SQLite format 3\0\x02\0\x01\x01\0\x40\x20\x20");
+    page[56..60].copy_from_slice(&[0, 0, 0, 1]);
+    page[100..108].copy_from_slice(&[13, 1, 44, 0, 0, 1, 44, 0]);
+    page[300..304].copy_from_slice(&[0, 0, 0, 20]);
+    page
+}
+
+#[test]
+fn a_page_owns_its_headers_and_names_its_freeblock(rt: HostRuntime) -> Result<(), Fail> {
+    let alloc = rt.alloc();
+    let page = first_page();
+    let Ok(header) = read_header(&page) else {
+        return Err(Fail::from("the page has a header"));
+    };
+    let evidence = Evidence {
+        database: &page,
+        wal: None,
+        journal: None,
+    };
+    let case = Case::gather(alloc, header, evidence)?;
+    let lengths = Lengths {
+        database: 512,
+        wal: None,
+        journal: None,
+    };
+    if !can_be_page_size(512) {
+        return Err(Fail::from("a page has 512 bytes"));
+    }
+    let wal = read_wal(alloc, None, 512)?;
+    let journal = read_journal(alloc, None, 512)?;
+    let table = images(alloc, 512, lengths, &wal, &journal)?;
+    assert_eq!(rt; table.page_size(), case.header().page_size);
+    let owned = sweep(alloc, &case, &table, &[Moment::File])?;
+    assert_eq!(rt; owned.images(), 1);
+    let free = Span {
+        start: 108,
+        len: 404,
+    };
+    assert_eq!(rt; owned.unowned(0).next(), Some(free));
+    assert!(rt; owned.is_block(0, 300));
+    assert!(rt; !owned.is_block(0, 301));
+    let none = sweep(alloc, &case, &table, &[])?;
+    assert_eq!(rt; none.images(), 1);
+    let whole = Span { start: 0, len: 512 };
+    assert_eq!(rt; none.unowned(0).next(), Some(whole));
+    Ok(())
+}
