@@ -6,7 +6,8 @@ use Rattle.sx_wal.specs.declared.slot.Slot.{Slot}
 use Rattle.sx_generations.specs.declared.runs.Run.{Run}
 use Rattle.sx_generations.specs.declared.groups.Group.{Group}
 
--- a word in 8 hexadecimal digits, filled up with zeros
+-- a word in 8 hexadecimal digits, filled up with zeros: what std writes for `{word:08x}`, with the width 8, the flag 4 of
+-- zeros in front, and no precision
 unfoldable pub word_digits : ℕ → List ℕ
 word_digits word = padded_integral (format_spec 32 0 4 8 (2 ^ 64 - 1)) false [] (digits 16 false word)
 

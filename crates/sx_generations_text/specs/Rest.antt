@@ -20,7 +20,7 @@ lines_from (lines.Run i) slots runs groups = lines_behind slots runs groups i
 lines_from (lines.Commit i k) slots runs groups = map (commit_line slots) (drop k (commits_at runs i)) ++ lines_behind slots runs groups (i + 1)
 lines_from (lines.Group i) slots runs groups = group_lines i (drop i groups)
 
--- a line can come next: the run whose commit it is there
+-- a line can come next: where it is that of a commit, the run is there
 abbrev pub IsPlace : GenerationsLine → List (Run × List ℕ) → Type 0
 IsPlace lines.Runs runs = Unit {0}
 IsPlace (lines.Run i) runs = Unit {0}
