@@ -104,6 +104,7 @@ fn other_words_are_outside_the_grammar(rt: HostRuntime) -> Result<(), Fail> {
         &["a.db", "show"],
         &["a.db", "show", "table="],
         &["a.db", "show", "table=t", "no=1"],
+        &["a.db", "generations", "at=0"],
         &["a.db", "page", "no=1", "at"],
         &["a.db", "page", "no=1", "at="],
         &["a.db", "page", "no=1", "at=01"],
