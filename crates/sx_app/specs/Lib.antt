@@ -8,5 +8,6 @@ pub mod Commands
 pub mod Answers
 pub mod Stages
 pub mod Labels
+pub mod Carving
 pub mod Loaded
 pub mod Owed

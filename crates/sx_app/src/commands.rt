@@ -6,10 +6,12 @@ ghost use Rattle.sx_words.specs.Words as words;
 ghost use Rattle.sx_moment.specs.Limits.{IsSmall};
 ghost use Rattle.sx_words.specs.declared.request.When.{When};
 ghost use Rattle.sx_app.specs.Commands.{part_named, reply_over};
+ghost use Rattle.sx_app.specs.Carving.{carve_at, selected};
 ghost use Rattle.sx_app.specs.Labels.{explain_at, map_at};
 ghost use Rattle.sx_app.specs.Owed.{Gives, IsAnswered};
 ghost use Rattle.sx_app.specs.Stages.{MayMeet, Deciding};
 
+use crate::carving::{carve_lines, latest, prepare};
 use crate::finish::finish;
 use crate::generations::generations_lines;
 use crate::labels::{explain_lines, headless_lines, images_in, map_lines, roots_at};
@@ -24,7 +26,7 @@ use sx_map_text::HeadlessLines;
 use sx_moment::{Case, Snapshot};
 use sx_page_text::PageLines;
 use sx_timeline_text::TimelineLines;
-use sx_words::{Question, When};
+use sx_words::{Question, When, Which};
 
 /// The part of the evidence that a question names, the database where it names none.
 pub fn part_named(question: &Question<'_>) -> Part
@@ -36,6 +38,7 @@ pub fn part_named(question: &Question<'_>) -> Part
         | Question::Show { .. }
         | Question::Map { .. }
         | Question::Page { .. }
+        | Question::Carve { .. }
         | Question::Generations => Part::Database,
     }
 }
@@ -56,6 +59,7 @@ pub fn answer_question<W: Sink>(
         Question::Show { table, at } => answer_show(alloc, question, case, table, *at, out),
         Question::Map { at } => answer_map(alloc, question, case, *at, out),
         Question::Page { no, at } => finish(alloc, question, page_lines(case, *no, *at), out),
+        Question::Carve { at } => answer_carve(alloc, question, case, *at, out),
         Question::Explain { place, at } => answer_explain(alloc, question, case, *place, *at, out),
         Question::Generations => finish(alloc, question, generations_lines(alloc, case), out),
     }
@@ -125,6 +129,50 @@ fn map_pages<W: Sink>(
             map_lines(alloc, snapshot, roots.as_slice()),
             out,
         ),
+        Err(refused) => finish::<HeadlessLines, W>(alloc, question, Err(refused), out),
+    }
+}
+
+// Answers `carve`, over the moments that it asks for.
+fn answer_carve<W: Sink>(
+    alloc: Global,
+    question: &Question<'_>,
+    case: &Case<'_>,
+    which: Which,
+    out: &mut W,
+) -> Result<(), Refused>
+    requires asked { question_by question.now ≡ words.Carve which }
+    requires small { IsSmall case.now.database case.now.wal_bytes case.now.journal_bytes }
+    ensures { IsAnswered (question_by question.now) (reply_over (words.Carve which) case.now)
+        (W.taken out.old) (W.taken out.new) (W.faults out.old) (W.faults out.new) result }
+{
+    let at = latest(which);
+    let moment = moment_meant(case, at);
+    match snapshot_asked(case, at) {
+        Ok(snapshot) => carve_moments(alloc, question, case, &snapshot, moment, which, out),
+        Err(refused) => finish::<HeadlessLines, W>(alloc, question, Err(refused), out),
+    }
+}
+
+// Answers `carve`, over moments of which this is the last.
+fn carve_moments<W: Sink>(
+    alloc: Global,
+    question: &Question<'_>,
+    case: &Case<'_>,
+    snapshot: &Snapshot<'_, '_>,
+    moment: Moment,
+    which: Which,
+    out: &mut W,
+) -> Result<(), Refused>
+    requires asked { question_by question.now ≡ words.Carve which }
+    requires small { IsSmall case.now.database case.now.wal_bytes case.now.journal_bytes }
+    requires case { snapshot.now.case.now ≡ case.now }
+    requires moment { moment ≡ snapshot.now.moment }
+    ensures { IsAnswered (question_by question.now) (Ok (carve_at case.now (selected case.now which moment) moment))
+        (W.taken out.old) (W.taken out.new) (W.faults out.old) (W.faults out.new) result }
+{
+    match prepare(alloc, case, snapshot, which, moment) {
+        Ok(made) => finish(alloc, question, Ok(carve_lines(case, snapshot, &made)), out),
         Err(refused) => finish::<HeadlessLines, W>(alloc, question, Err(refused), out),
     }
 }

@@ -1,6 +1,7 @@
 //! The examiner's top call: from the words and the files of a store to the text that a sink takes.
 #![tactic(auto)]
 
+mod carving;
 mod commands;
 mod completeness;
 mod database;

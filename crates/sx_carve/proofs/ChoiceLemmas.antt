@@ -10,7 +10,7 @@ use Rattle.sx_grammar.specs.Clips.{Setting}
 use Rattle.sx_grammar.specs.Choice.{setting_of, forms_of, HasForm, accepted_at, Rises, NoneBegins}
 use Rattle.sx_grammar.proofs.ChosenLemmas.{none_both, chosen_both}
 use Rattle.sx_grammar.proofs.FreedLemmas.{freed_accepted}
-use Rattle.sx_carve.specs.Candidates.{unowned_front, candidate_at}
+use Rattle.sx_carve.specs.Candidates.{told_by, unowned_front, candidate_at}
 use Rattle.sx_carve.specs.Choice.{IsUnowned, BeginsUnowned, NoneUnowned, IsFirstUnowned}
 
 -- ---- spans at the front
@@ -93,7 +93,7 @@ none_from : (owned : ℕ → Bool) (at usable : ℕ) (setting : Setting) (bytes 
 none_from owned at usable setting bytes forms none = λ form sighting among begins. none form sighting among (to_unowned owned at usable setting form bytes sighting begins)
 
 pub no_candidate : (usable : ℕ) (shapes : List ShapeKey) (table : Owned) (image at : ℕ) (bytes : List ℕ) → 480 ≤ usable → Rises 1 shapes
-    → (candidate_at usable shapes table image at bytes ≡ None) ↔ NoneUnowned (owned_at table image) at usable (setting_of at (block_at table image at) usable) bytes (forms_of shapes)
+    → (candidate_at usable shapes (told_by table) image at bytes ≡ None) ↔ NoneUnowned (owned_at table image) at usable (setting_of at (block_at table image at) usable) bytes (forms_of shapes)
 unfolding candidate_at
 no_candidate usable shapes table image at bytes least rises =
     let owned = owned_at table image in
@@ -102,7 +102,7 @@ no_candidate usable shapes table image at bytes least rises =
     (λ is. none_to owned at usable setting bytes (forms_of shapes) (both.0 is), λ none. both.1 (none_from owned at usable setting bytes (forms_of shapes) none))
 
 pub one_candidate : (usable : ℕ) (shapes : List ShapeKey) (table : Owned) (image at : ℕ) (bytes : List ℕ) (sighting : Sighting) → 480 ≤ usable → Rises 1 shapes
-    → (candidate_at usable shapes table image at bytes ≡ Some sighting) ↔ IsFirstUnowned (owned_at table image) at usable shapes (setting_of at (block_at table image at) usable) bytes sighting
+    → (candidate_at usable shapes (told_by table) image at bytes ≡ Some sighting) ↔ IsFirstUnowned (owned_at table image) at usable shapes (setting_of at (block_at table image at) usable) bytes sighting
 unfolding candidate_at
 one_candidate usable shapes table image at bytes sighting least rises =
     let owned = owned_at table image in
@@ -130,7 +130,7 @@ one_candidate usable shapes table image at bytes sighting least rises =
 
 pub freed_candidate : (usable : ℕ) (shapes : List ShapeKey) (table : Owned) (image at : ℕ) (span rest : List ℕ) → usable ≤ 65536
     → IsFreed shapes (setting_of at (block_at table image at) usable) span → IsUnowned (owned_at table image) at (length span)
-    → is_some (candidate_at usable shapes table image at (span ++ rest)) ≡ true
+    → is_some (candidate_at usable shapes (told_by table) image at (span ++ rest)) ≡ true
 unfolding candidate_at
 freed_candidate usable shapes table image at span rest most freed unowned =
     let owned = owned_at table image in

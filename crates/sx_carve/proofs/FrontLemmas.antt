@@ -8,7 +8,7 @@ use Rattle.sx_grammar.specs.Clips.{Setting, cut_in}
 use Rattle.sx_grammar.specs.Choice.{setting_of, accepted_at}
 use Rattle.sx_grammar.proofs.ChoiceLemmas.{accepted_none}
 use Rattle.sx_bytes.specs.Varints.{short_at, varint_at}
-use Rattle.sx_carve.specs.Candidates.{carved, unowned_front, candidate_at, carved_from}
+use Rattle.sx_carve.specs.Candidates.{told_by, carved, unowned_front, candidate_at, carved_from}
 use Rattle.sx_carve.specs.Scan.{scanned_from}
 
 -- so many bytes aren't owned, and the one behind them is, where there is one
@@ -44,7 +44,7 @@ front_owned : (owned : ℕ → Bool) (at byte : ℕ) (bytes : List ℕ) → owne
 unfolding unowned_front
 front_owned owned at byte bytes is = rw is refl
 
-none_owned : (usable : ℕ) (shapes : List ShapeKey) (table : Owned) (image at byte : ℕ) (bytes : List ℕ) → owned_at table image at ≡ true → candidate_at usable shapes table image at (byte ∷ bytes) ≡ None
+none_owned : (usable : ℕ) (shapes : List ShapeKey) (table : Owned) (image at byte : ℕ) (bytes : List ℕ) → owned_at table image at ≡ true → candidate_at usable shapes (told_by table) image at (byte ∷ bytes) ≡ None
 unfolding candidate_at
 none_owned usable shapes table image at byte bytes is =
     let setting = setting_of at (block_at table image at) usable in
@@ -52,20 +52,20 @@ none_owned usable shapes table image at byte bytes is =
 
 -- so many bytes are owned
 pub owned_passed : (n usable : ℕ) (shapes : List ShapeKey) (table : Owned) (image at : ℕ) (bytes : List ℕ) → n ≤ length bytes → ((k : ℕ) → k < n → owned_at table image (at + k) ≡ true)
-    → carved_from usable shapes table image at bytes ≡ carved_from usable shapes table image (at + n) (drop n bytes)
+    → carved_from usable shapes (told_by table) image at bytes ≡ carved_from usable shapes (told_by table) image (at + n) (drop n bytes)
 unfolding carved_from
-owned_passed zero usable shapes table image at bytes within owned = let same : at ≡ at + 0 = omega arith in ap (λ k. carved_from usable shapes table image k bytes) same
+owned_passed zero usable shapes table image at bytes within owned = let same : at ≡ at + 0 = omega arith in ap (λ k. carved_from usable shapes (told_by table) image k bytes) same
 owned_passed (suc n) usable shapes table image at [] within owned = absurd (omega arith)
 owned_passed (suc n) usable shapes table image at (byte ∷ bytes) within owned =
     let here : owned_at table image at ≡ true = subst (λ k. owned_at table image k ≡ true) (add-zero at) (owned 0 (omega arith)) in
     let more : (k : ℕ) → at + 1 + k ≡ at + suc k = λ k. omega arith in
-    ap (λ found. carved image at found ++ carved_from usable shapes table image (at + 1) bytes) (none_owned usable shapes table image at byte bytes here)
+    ap (λ found. carved image at found ++ carved_from usable shapes (told_by table) image (at + 1) bytes) (none_owned usable shapes table image at byte bytes here)
     ∙ owned_passed n usable shapes table image (at + 1) bytes (omega arith) (λ k below. ap (owned_at table image) (more k) ∙ owned (suc k) (omega arith))
-    ∙ ap (λ k. carved_from usable shapes table image k (drop n bytes)) (more n)
+    ∙ ap (λ k. carved_from usable shapes (told_by table) image k (drop n bytes)) (more n)
 
 candidate_is : (n usable : ℕ) (shapes : List ShapeKey) (table : Owned) (image at : ℕ) (bytes : List ℕ) → n ≤ length bytes → ((k : ℕ) → k < n → owned_at table image (at + k) ≡ false)
     → (n < length bytes → owned_at table image (at + n) ≡ true)
-    → candidate_at usable shapes table image at bytes ≡ accepted_at usable shapes (setting_of at (block_at table image at) usable) (take n bytes)
+    → candidate_at usable shapes (told_by table) image at bytes ≡ accepted_at usable shapes (setting_of at (block_at table image at) usable) (take n bytes)
 unfolding candidate_at
 candidate_is n usable shapes table image at bytes within free stop =
     ap (accepted_at usable shapes (setting_of at (block_at table image at) usable)) (front_is n (owned_at table image) at bytes within free stop)
@@ -73,9 +73,9 @@ candidate_is n usable shapes table image at bytes within free stop =
 -- so many bytes aren't owned, and the one behind them is, where there is one: what is found among them is what a run gives
 pub run_split : (n usable : ℕ) (shapes : List ShapeKey) (table : Owned) (image at : ℕ) (bytes : List ℕ) → n ≤ length bytes → ((k : ℕ) → k < n → owned_at table image (at + k) ≡ false)
     → (0 < n → n < length bytes → owned_at table image (at + n) ≡ true)
-    → carved_from usable shapes table image at bytes ≡ scanned_from usable shapes table image at (take n bytes) ++ carved_from usable shapes table image (at + n) (drop n bytes)
+    → carved_from usable shapes (told_by table) image at bytes ≡ scanned_from usable shapes table image at (take n bytes) ++ carved_from usable shapes (told_by table) image (at + n) (drop n bytes)
 unfolding carved_from scanned_from
-run_split zero usable shapes table image at bytes within free stop = let same : at ≡ at + 0 = omega arith in ap (λ k. carved_from usable shapes table image k bytes) same
+run_split zero usable shapes table image at bytes within free stop = let same : at ≡ at + 0 = omega arith in ap (λ k. carved_from usable shapes (told_by table) image k bytes) same
 run_split (suc n) usable shapes table image at [] within free stop = absurd (omega arith)
 run_split (suc n) usable shapes table image at (byte ∷ bytes) within free stop =
     let more : (k : ℕ) → at + 1 + k ≡ at + suc k = λ k. omega arith in
@@ -83,6 +83,6 @@ run_split (suc n) usable shapes table image at (byte ∷ bytes) within free stop
     let found = carved image at (accepted_at usable shapes setting (byte ∷ take n bytes)) in
     let rest = scanned_from usable shapes table image (at + 1) (take n bytes) in
     let further = run_split n usable shapes table image (at + 1) bytes (omega arith) (λ k below. ap (owned_at table image) (more k) ∙ free (suc k) (omega arith)) (λ some below. ap (owned_at table image) (more n) ∙ stop (omega arith) (omega arith)) in
-    ap (λ one. carved image at one ++ carved_from usable shapes table image (at + 1) bytes) (candidate_is (suc n) usable shapes table image at (byte ∷ bytes) within free (stop (omega arith)))
-    ∙ ap (λ tail. found ++ tail) (further ∙ ap (λ k. rest ++ carved_from usable shapes table image k (drop n bytes)) (more n))
-    ∙ sym (append_assoc found rest (carved_from usable shapes table image (at + suc n) (drop n bytes)))
+    ap (λ one. carved image at one ++ carved_from usable shapes (told_by table) image (at + 1) bytes) (candidate_is (suc n) usable shapes table image at (byte ∷ bytes) within free (stop (omega arith)))
+    ∙ ap (λ tail. found ++ tail) (further ∙ ap (λ k. rest ++ carved_from usable shapes (told_by table) image k (drop n bytes)) (more n))
+    ∙ sym (append_assoc found rest (carved_from usable shapes (told_by table) image (at + suc n) (drop n bytes)))

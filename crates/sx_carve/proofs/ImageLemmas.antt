@@ -6,12 +6,12 @@ use Rattle.sx_base.specs.declared.evidence.Part.TheVariants.{Database, Wal, Jour
 use Rattle.sx_images.specs.Images.{Table, images_of, length_of}
 use Rattle.sx_owned.specs.Owned.{Owned}
 use Rattle.sx_grammar.specs.declared.shape.ShapeKey.{ShapeKey}
-use Rattle.sx_carve.specs.Candidates.{carved_from, image_bytes, candidates_from}
+use Rattle.sx_carve.specs.Candidates.{told_by, carved_from, image_bytes, candidates_from}
 use Rattle.sx_carve.specs.Evidence.{AreOf}
 use Rattle.sx_carve.specs.Scan.{images_rest}
 
 none_from : (usable : ℕ) (shapes : List ShapeKey) (table : Owned) (page_size : ℕ) (files : Part → List ℕ) (number : ℕ) (images : List Image) → length images ≡ 0
-    → candidates_from usable shapes table page_size files number images ≡ []
+    → candidates_from usable shapes (told_by table) page_size files number images ≡ []
 unfolding candidates_from
 none_from usable shapes table page_size files number [] none = refl
 none_from usable shapes table page_size files number (image ∷ images) none = absurd (omega arith)
@@ -30,17 +30,17 @@ drop_there (first ∷ images) (suc number) image is =
     drop_there images number image is ∙ ap (λ (k : ℕ). image ∷ drop k (first ∷ images)) count
 
 one_from : (usable : ℕ) (shapes : List ShapeKey) (table : Owned) (page_size : ℕ) (files : Part → List ℕ) (number : ℕ) (image : Image) (images : List Image)
-    → candidates_from usable shapes table page_size files number (image ∷ images)
-    ≡ carved_from usable shapes table number 0 (image_bytes page_size files image) ++ candidates_from usable shapes table page_size files (number + 1) images
+    → candidates_from usable shapes (told_by table) page_size files number (image ∷ images)
+    ≡ carved_from usable shapes (told_by table) number 0 (image_bytes page_size files image) ++ candidates_from usable shapes (told_by table) page_size files (number + 1) images
 unfolding candidates_from
 one_from usable shapes table page_size files number image images = refl
 
 -- an image and those behind it
 pub one_image : (usable : ℕ) (shapes : List ShapeKey) (table : Owned) (files : Part → List ℕ) (images : Table) (number : ℕ) (image : Image) → slice_get (images_of images) number ≡ Some image
     → images_rest usable shapes table files images number
-    ≡ carved_from usable shapes table number 0 (image_bytes images.page_size files image) ++ images_rest usable shapes table files images (number + 1)
+    ≡ carved_from usable shapes (told_by table) number 0 (image_bytes images.page_size files image) ++ images_rest usable shapes table files images (number + 1)
 one_image usable shapes table files images number image there =
-    ap (candidates_from usable shapes table images.page_size files number) (drop_there (images_of images) number image there)
+    ap (candidates_from usable shapes (told_by table) images.page_size files number) (drop_there (images_of images) number image there)
     ∙ one_from usable shapes table images.page_size files number image (drop (number + 1) (images_of images))
 
 -- ---- the files

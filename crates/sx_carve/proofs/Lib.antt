@@ -4,3 +4,4 @@ pub mod ScanLemmas
 pub mod ImageLemmas
 pub mod ChoiceLemmas
 pub mod CountLemmas
+pub mod TellingLemmas

@@ -7,7 +7,7 @@ use Rattle.sx_base.specs.declared.evidence.Span.{Span}
 use Rattle.sx_owned.specs.Owned.{Owned, owned_at}
 use Rattle.sx_owned.specs.Spans.{IsMaximal, AreMaximal, Rise, in_span, in_spans}
 use Rattle.sx_grammar.specs.declared.shape.ShapeKey.{ShapeKey}
-use Rattle.sx_carve.specs.Candidates.{Carved, carved_from}
+use Rattle.sx_carve.specs.Candidates.{told_by, Carved, carved_from}
 use Rattle.sx_carve.specs.Scan.{scanned_from, run_rest, image_rest, AreLeft, is_free, IsScan, IsNextInRun, IsNextInImage}
 use Rattle.sx_carve.proofs.FrontLemmas.{owned_passed, run_split}
 
@@ -127,9 +127,9 @@ in_run usable shapes table image at end bytes spans scan =
     let front : take n (drop at bytes) ≡ drop at (take end bytes) = sym (drop-take at n bytes) ∙ ap (λ (k : ℕ). drop at (take k bytes)) back in
     let rest : drop n (drop at bytes) ≡ drop end bytes = drop-drop n at bytes ∙ ap (λ (k : ℕ). drop k bytes) back in
     split
-    ∙ ap (λ run. scanned_from usable shapes table image at run ++ carved_from usable shapes table image (at + n) (drop n (drop at bytes))) front
-    ∙ ap (λ tail. run_rest usable shapes table image (take end bytes) at ++ carved_from usable shapes table image (at + n) tail) rest
-    ∙ ap (λ k. run_rest usable shapes table image (take end bytes) at ++ carved_from usable shapes table image k (drop end bytes)) back
+    ∙ ap (λ run. scanned_from usable shapes table image at run ++ carved_from usable shapes (told_by table) image (at + n) (drop n (drop at bytes))) front
+    ∙ ap (λ tail. run_rest usable shapes table image (take end bytes) at ++ carved_from usable shapes (told_by table) image (at + n) tail) rest
+    ∙ ap (λ k. run_rest usable shapes table image (take end bytes) at ++ carved_from usable shapes (told_by table) image k (drop end bytes)) back
 
 -- a candidate of the run is the image's
 pub found_in_run : (usable : ℕ) (shapes : List ShapeKey) (table : Owned) (image from at end : ℕ) (bytes run : List ℕ) (spans : List Span) (found : Carved) → run ≡ take end bytes
@@ -172,7 +172,7 @@ owned_between usable shapes table image from to bytes rises within owned =
     let back : from + n ≡ to = omega arith in
     let long = length-drop from bytes in
     owned_passed n usable shapes table image from (drop from bytes) (omega (arith, long)) (λ k below. owned (from + k) (omega arith) (omega arith))
-    ∙ ap (carved_from usable shapes table image (from + n)) (drop-drop n from bytes)
+    ∙ ap (carved_from usable shapes (told_by table) image (from + n)) (drop-drop n from bytes)
     ∙ ap (image_rest usable shapes table image bytes) back
 
 -- nothing in the run, and the next one
@@ -185,7 +185,7 @@ next_run usable shapes table image at end bytes run span old spans front scan is
     run_passed usable shapes table image at end bytes run old front scan none
     ∙ owned_between usable shapes table image end span.start bytes left.order.0 (omega (arith, one.within)) (gap_owned table image (length bytes) end span spans left)
 
-pub image_end : (usable : ℕ) (shapes : List ShapeKey) (table : Owned) (image at : ℕ) (bytes : List ℕ) → length bytes ≡ 0 → carved_from usable shapes table image at bytes ≡ []
+pub image_end : (usable : ℕ) (shapes : List ShapeKey) (table : Owned) (image at : ℕ) (bytes : List ℕ) → length bytes ≡ 0 → carved_from usable shapes (told_by table) image at bytes ≡ []
 unfolding carved_from
 image_end usable shapes table image at [] none = refl
 image_end usable shapes table image at (byte ∷ bytes) none = absurd (omega arith)

@@ -7,7 +7,7 @@ use Rattle.sx_owned.specs.Owned.{Owned, images_of, owned_at, block_at}
 use Rattle.sx_owned.specs.Spans.{IsMaximal, Rise, in_spans}
 use Rattle.sx_grammar.specs.declared.shape.ShapeKey.{ShapeKey}
 use Rattle.sx_grammar.specs.Choice.{Rises, setting_of, accepted_at}
-use Rattle.sx_carve.specs.Candidates.{Carved, carved, carved_from, candidates_from}
+use Rattle.sx_carve.specs.Candidates.{told_by, Carved, carved, carved_from, candidates_from}
 
 -- the same in a run of bytes none of which is owned: what is accepted at each place from one on
 unfoldable pub scanned_from : ℕ → List ShapeKey → Owned → ℕ → ℕ → List ℕ → List Carved
@@ -22,12 +22,12 @@ run_rest usable shapes table image run at = scanned_from usable shapes table ima
 
 -- those of an image from one of its offsets on
 abbrev pub image_rest : ℕ → List ShapeKey → Owned → ℕ → List ℕ → ℕ → List Carved
-image_rest usable shapes table image bytes at = carved_from usable shapes table image at (drop at bytes)
+image_rest usable shapes table image bytes at = carved_from usable shapes (told_by table) image at (drop at bytes)
 
 -- those of the images from one on
 abbrev pub images_rest : ℕ → List ShapeKey → Owned → (Part → List ℕ) → Table → ℕ → List Carved
 images_rest usable shapes table files images number =
-    candidates_from usable shapes table images.page_size files number (drop number (all_images images))
+    candidates_from usable shapes (told_by table) images.page_size files number (drop number (all_images images))
 
 -- the spans are the maximal ones of the places that pass, from a place on up to a size
 pub record AreLeft (size : ℕ) (passes : ℕ → Bool) (from : ℕ) (spans : List Span) : Type 0 where

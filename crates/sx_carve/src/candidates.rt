@@ -1,7 +1,7 @@
 //! The candidates of all images.
 ghost use Rattle.std.specs.Prelude.{◌≡◌, ◌+◌, ◌*◌, ◌<◌, ◌≤◌, [], ◌∷◌, ◌++◌, MatchOption, length, take, drop, option_copied};
 ghost use Rattle.sx_images.specs.Images.{images_of};
-ghost use Rattle.sx_carve.specs.Candidates.{candidates_of, AreIn};
+ghost use Rattle.sx_carve.specs.Candidates.{told_by, candidates_of, AreIn};
 ghost use Rattle.sx_carve.specs.Evidence.{evidence_bytes, AreOf, Fit};
 ghost use Rattle.sx_carve.specs.Scan.{images_rest, scan_rest};
 
@@ -57,7 +57,7 @@ impl<'t, 'a> Candidates<'t, 'a> {
     ) -> Self
         requires fit { Fit ctx.usable ctx.shapes.now images.now owned.now }
         requires images { AreOf (evidence_bytes evidence.database.now (option_copied evidence.wal) (option_copied evidence.journal)) images.now }
-        ensures all { result ≡ candidates_of ctx.entry.usable ctx.entry.shapes.now owned.now images.now.page_size (evidence_bytes evidence.entry.database.now (option_copied evidence.entry.wal) (option_copied evidence.entry.journal)) (images_of images.now) }
+        ensures all { result ≡ candidates_of ctx.entry.usable ctx.entry.shapes.now (told_by owned.now) images.now.page_size (evidence_bytes evidence.entry.database.now (option_copied evidence.entry.wal) (option_copied evidence.entry.journal)) (images_of images.now) }
         ensures told { AreIn (length (images_of images.now)) result }
         ensures few { length result ≤ length (images_of images.now) * 65536 }
     {

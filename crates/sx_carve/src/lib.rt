@@ -9,7 +9,9 @@ mod scan;
 
 pub use candidate::Candidate;
 pub use candidates::Candidates;
-pub use laws::{candidates_are_first_forms, freed_cells_have_candidates};
+pub use laws::{
+    candidates_are_first_forms, candidates_follow_from_what_is_told, freed_cells_have_candidates,
+};
 
 #[cfg(test)]
 mod tests;

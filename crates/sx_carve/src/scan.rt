@@ -1,6 +1,6 @@
 //! The candidates of one image.
 ghost use Rattle.std.specs.Prelude.{◌≡◌, ◌+◌, ◌≤◌, [], MatchOption, IfSome, IfNone, length};
-ghost use Rattle.sx_carve.specs.Candidates.{carved_from};
+ghost use Rattle.sx_carve.specs.Candidates.{told_by, carved_from};
 ghost use Rattle.sx_carve.specs.Scan.{image_rest, IsSought, IsScan, IsNextInImage};
 
 use crate::candidate::Candidate;
@@ -40,7 +40,7 @@ impl<'t, 'a> ImageScan<'t, 'a> {
         requires sought { IsSought ctx.usable ctx.shapes.now owned.now image }
         requires size { length bytes.now ≡ owned.now.page_size }
         requires small { length bytes.now ≤ 65536 }
-        ensures { result ≡ carved_from ctx.entry.usable ctx.entry.shapes.now owned.now image 0 bytes.now }
+        ensures { result ≡ carved_from ctx.entry.usable ctx.entry.shapes.now (told_by owned.now) image 0 bytes.now }
     {
         let spans = owned.unowned(image);
         ImageScan {

@@ -1,7 +1,7 @@
 //! The text of `carve`.
 ghost use Rattle.std.specs.Prelude.{◌≡◌, ◌+◌, ◌<◌, ◌^◌, [], length, true, if◌then◌else◌, IfOk, OnOk, string_bytes, option_copied};
 ghost use Rattle.sx_images.specs.Images.{images_of};
-ghost use Rattle.sx_carve.specs.Candidates.{candidates_of};
+ghost use Rattle.sx_carve.specs.Candidates.{candidates_of, told_by};
 ghost use Rattle.sx_carve.specs.Evidence.{evidence_bytes, AreOf, Fit};
 ghost use Rattle.sx_lines.specs.Lines.{ended, IsNextLine};
 ghost use Rattle.sx_carve_text.specs.Carve.{carve_lines, count_line};
@@ -66,7 +66,7 @@ impl<'t, 'a> CarveLines<'t, 'a> {
     ) -> Self
         requires fit { Fit ctx.usable ctx.shapes.now images.now owned.now }
         requires images { AreOf (evidence_bytes evidence.database.now (option_copied evidence.wal) (option_copied evidence.journal)) images.now }
-        ensures { result ≡ carve_lines encoding (images_of images.now) (candidates_of ctx.entry.usable ctx.entry.shapes.now owned.now images.now.page_size (evidence_bytes evidence.entry.database.now (option_copied evidence.entry.wal) (option_copied evidence.entry.journal)) (images_of images.now)) }
+        ensures { result ≡ carve_lines encoding (images_of images.now) (candidates_of ctx.entry.usable ctx.entry.shapes.now (told_by owned.now) images.now.page_size (evidence_bytes evidence.entry.database.now (option_copied evidence.entry.wal) (option_copied evidence.entry.journal)) (images_of images.now)) }
     {
         let _images = images.count();
         let candidates = Candidates::over(evidence, images, owned, ctx);

@@ -1,5 +1,5 @@
 -- The grammar of the words: the request that a list of words asks for, if it asks for one.
-use Rattle.std.specs.Prelude.{ℕ, ◌==◌, Bool, not, ◌&&◌, ◌||◌, nat_lt, nat_le, if◌then◌else◌, List, [], ◌∷◌, map, is_some, count_by, slice_index, Option, None, Some, Result, Ok, Err, String, codes, bytes_eq, string_bytes}
+use Rattle.std.specs.Prelude.{ℕ, ◌==◌, Bool, false, not, ◌&&◌, ◌||◌, nat_lt, nat_le, if◌then◌else◌, List, [], ◌∷◌, map, is_some, count_by, slice_index, Option, None, Some, Result, Ok, Err, String, codes, bytes_eq, string_bytes}
 use Rattle.std.specs.List.{list_all, list_any, before_first, after_first}
 use Rattle.std.specs.Option.{option_map}
 use Rattle.std.specs.Str.{all_ascii_digits}
@@ -23,6 +23,8 @@ use Rattle.sx_words.specs.declared.request.Request.{Request}
 use Rattle.sx_words.specs.declared.request.Request.TheVariants as requests
 use Rattle.sx_words.specs.declared.request.When.{When}
 use Rattle.sx_words.specs.declared.request.When.TheVariants as whens
+use Rattle.sx_words.specs.declared.request.Which.{Which}
+use Rattle.sx_words.specs.declared.request.Which.TheVariants as whiches
 use Rattle.sx_words.specs.declared.request.Usage.{Usage}
 
 -- what can be asked of evidence, with names as lists of bytes: one case a command
@@ -31,6 +33,7 @@ pub data Question : Type 0 where
   Show : (table : List ℕ) → (at : When) → Question
   Map : (at : When) → Question
   Page : (number : ℕ) → (at : When) → Question
+  Carve : (at : Which) → Question
   Explain : (place : Place) → (at : When) → Question
   Generations : Question
 
@@ -51,8 +54,9 @@ command_named word =
     else (if bytes_eq word (codes "show") then Some commands.Show
     else (if bytes_eq word (codes "map") then Some commands.Map
     else (if bytes_eq word (codes "page") then Some commands.Page
+    else (if bytes_eq word (codes "carve") then Some commands.Carve
     else (if bytes_eq word (codes "explain") then Some commands.Explain
-    else (if bytes_eq word (codes "generations") then Some commands.Generations else None)))))
+    else (if bytes_eq word (codes "generations") then Some commands.Generations else None))))))
 
 -- the keys that the words behind a command may set, and which of them they must: one row a command
 abbrev pub keys_of : Command → List Wanted
@@ -60,6 +64,7 @@ keys_of commands.Timeline = []
 keys_of commands.Show = Required Table ∷ Allowed At ∷ []
 keys_of commands.Map = Allowed At ∷ []
 keys_of commands.Page = Required No ∷ Allowed At ∷ []
+keys_of commands.Carve = Allowed At ∷ []
 keys_of commands.Explain = Required keys.Part ∷ Required keys.Byte ∷ Allowed At ∷ []
 keys_of commands.Generations = []
 
@@ -155,6 +160,20 @@ when_of (Some text) =
     if bytes_eq text (codes "journal") then Some (whens.At moments.Journal)
     else option_map (λ number. whens.At (numbered number)) (number_of 0 4294967295 text)
 
+-- all moments are asked for
+abbrev pub is_all : Option (List ℕ) → Bool
+is_all None = false
+is_all (Some text) = bytes_eq text (codes "all")
+
+-- one moment, where it could be read
+abbrev pub one_of : Option When → Option Which
+one_of None = None
+one_of (Some at) = Some (whiches.One at)
+
+-- which: all moments, or one by its own grammar
+unfoldable pub which_of : Option (List ℕ) → Option Which
+which_of value = if is_all value then Some whiches.All else one_of (when_of value)
+
 -- ---- the request
 
 -- a table at some time, where that could be read
@@ -174,6 +193,11 @@ abbrev pub map_of : Option When → Option Question
 map_of (Some at) = Some (Map at)
 map_of None = None
 
+-- what stands of deleted rows at some times, where these could be read
+abbrev pub carve_of : Option Which → Option Question
+carve_of (Some at) = Some (Carve at)
+carve_of None = None
+
 -- a byte of a part, where both could be read
 abbrev pub byte_of : Option Part → Option ℕ → Option Place
 byte_of (Some part) (Some offset) = Some (record { part = part; offset = offset })
@@ -192,6 +216,7 @@ question_of commands.Timeline words = Some Timeline
 question_of commands.Show words = show_of (value_of Table words) (when_of (value_of At words))
 question_of commands.Map words = map_of (when_of (value_of At words))
 question_of commands.Page words = page_of (page_number_of (value_of No words)) (when_of (value_of At words))
+question_of commands.Carve words = carve_of (which_of (value_of At words))
 question_of commands.Explain words =
     explain_of (byte_of (part_of (value_of keys.Part words)) (offset_of (value_of keys.Byte words))) (when_of (value_of At words))
 question_of commands.Generations words = Some Generations
@@ -220,6 +245,7 @@ question_by questions.Timeline = Timeline
 question_by (questions.Show table at) = Show table.now at
 question_by (questions.Map at) = Map at
 question_by (questions.Page number at) = Page number at
+question_by (questions.Carve at) = Carve at
 question_by (questions.Explain place at) = Explain place at
 question_by questions.Generations = Generations
 

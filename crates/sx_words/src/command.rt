@@ -11,6 +11,7 @@ pub enum Command {
     Show,
     Map,
     Page,
+    Carve,
     Explain,
     Generations,
 }
@@ -24,6 +25,7 @@ pub fn command_named(word: &str) -> Option<Command>
         "show" => Some(Command::Show),
         "map" => Some(Command::Map),
         "page" => Some(Command::Page),
+        "carve" => Some(Command::Carve),
         "explain" => Some(Command::Explain),
         "generations" => Some(Command::Generations),
         _ => None,
@@ -40,6 +42,7 @@ impl Command {
             Command::Show => &[Wanted::Required(Key::Table), Wanted::Allowed(Key::At)],
             Command::Map => &[Wanted::Allowed(Key::At)],
             Command::Page => &[Wanted::Required(Key::No), Wanted::Allowed(Key::At)],
+            Command::Carve => &[Wanted::Allowed(Key::At)],
             Command::Explain => &[
                 Wanted::Required(Key::Part),
                 Wanted::Required(Key::Byte),

@@ -1,12 +1,12 @@
 //! The grammar of the words.
 ghost use Rattle.std.specs.Prelude.{◌≡◌, ◌∷◌, []};
 ghost use Rattle.std.specs.Option.{option_copied, option_map};
-ghost use Rattle.sx_words.specs.Words.{texts, request_of, command_of, question_of, show_of, map_of, page_of, explain_of, byte_of, part_of, offset_of, command_named, page_number_of, when_of, asked, question_by, is_name, numbered};
+ghost use Rattle.sx_words.specs.Words.{texts, request_of, command_of, question_of, show_of, map_of, page_of, carve_of, which_of, is_all, one_of, explain_of, byte_of, part_of, offset_of, command_named, page_number_of, when_of, asked, question_by, is_name, numbered};
 
 use crate::command::{Command, command_named};
 use crate::key::Key;
 use crate::number::number_of;
-use crate::request::{Question, Request, Usage, When};
+use crate::request::{Question, Request, Usage, When, Which};
 use crate::settings::{are_settings, value_of};
 use sx_base::{Moment, Part, Place};
 
@@ -18,7 +18,7 @@ const GREATEST: u64 = 4_294_967_295;
 /// They are `<db> <command>` and words `key=value`, split at their first `=`. `<db>` isn't empty and isn't the word
 /// `drill`, which is kept for a command that reads no file. The commands are `timeline` and `generations`, which have no key;
 /// `show` with its keys `table`, which is required, and `at`; `map` with its key `at`; `page` with its keys `no`, from 1 to
-/// 4294967295, which is required, and `at`; and `explain` with its keys `part`, which is `database`, `wal` or `journal`, and
+/// 4294967295, which is required, and `at`; `carve` with its key `at`, which can be `all` too; and `explain` with its keys `part`, which is `database`, `wal` or `journal`, and
 /// `byte`, from 0 to 18446744073709551615, which are both required, and `at`. `at` is `journal` or from 0 to 4294967295.
 /// The keys come in any order, each at most once. A number is `0` or decimal digits that don't begin with 0.
 ///
@@ -71,6 +71,7 @@ fn read_question<'w>(command: Command, words: &'w [String]) -> Option<Question<'
             page_number(value_of(Key::No, words)),
             when(value_of(Key::At, words)),
         ),
+        Command::Carve => carve(which(value_of(Key::At, words))),
         Command::Explain => explain(
             place(
                 part(value_of(Key::Part, words)),
@@ -104,6 +105,13 @@ fn map(at: Option<When>) -> Option<Question<'static>>
     ensures { option_map question_by result ≡ map_of at }
 {
     Some(Question::Map { at: at? })
+}
+
+// What stands of deleted rows at some times, where these could be read.
+fn carve(at: Option<Which>) -> Option<Question<'static>>
+    ensures { option_map question_by result ≡ carve_of at }
+{
+    Some(Question::Carve { at: at? })
 }
 
 // A byte at some time, where both could be read.
@@ -171,6 +179,35 @@ fn when(value: Option<&str>) -> Option<When>
             None => None,
         },
     }
+}
+
+// The moments that are asked for: all of them, or one.
+#[tactic(auto, unfolding(crate::specs::Words::which_of))]
+fn which(value: Option<&str>) -> Option<Which>
+    ensures { result ≡ which_of (option_copied value.entry) }
+{
+    if is_all(value) {
+        Some(Which::All)
+    } else {
+        one(when(value))
+    }
+}
+
+// Whether all moments are asked for.
+fn is_all(value: Option<&str>) -> bool
+    ensures { result ≡ is_all (option_copied value.entry) }
+{
+    match value {
+        Some(text) => text == "all",
+        None => false,
+    }
+}
+
+// One moment, where it could be read.
+fn one(at: Option<When>) -> Option<Which>
+    ensures { result ≡ one_of at }
+{
+    Some(Which::One(at?))
 }
 
 // The moment of a number: 0 is the file, and every other number a commit.

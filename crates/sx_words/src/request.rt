@@ -20,6 +20,8 @@ pub enum Question<'w> {
     Map { at: When },
     /// `page no=N [at=M]`: page `no`, from 1, at some time.
     Page { no: u32, at: When },
+    /// `carve [at=M|all]`: what of deleted rows still stands, where nothing uses the bytes at some times.
+    Carve { at: Which },
     /// `explain part=P byte=N [at=M]`: what a byte of one of the files is, and what at some time.
     Explain { place: Place, at: When },
     /// `generations`: what older generations left in the log, and records behind a zeroed header of the journal.
@@ -33,6 +35,15 @@ pub enum When {
     Last,
     /// At this moment.
     At(Moment),
+}
+
+/// Which: the states of the database that a command looks at together.
+#[derive(Clone, Copy, Debug, PartialEq, Eq)]
+pub enum Which {
+    /// All that the evidence holds.
+    All,
+    /// One of them.
+    One(When),
 }
 
 /// The words are outside the grammar.

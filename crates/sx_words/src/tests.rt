@@ -93,6 +93,20 @@ fn a_byte_is_asked_for_by_its_file_and_a_time(rt: HostRuntime) -> Result<(), Fai
 }
 
 #[test]
+fn all_moments_are_asked_for_by_carve_alone(rt: HostRuntime) -> Result<(), Fail> {
+    let alloc = rt.alloc();
+    let db = "a.db";
+    let words = owned(alloc, &["a.db", "carve", "at=all"])?;
+    let question = Question::Carve { at: Which::All };
+    assert_eq!(rt; read_words(&words), Ok(Request::Evidence { db, question }));
+    let words = owned(alloc, &["a.db", "carve"])?;
+    let at = Which::One(When::Last);
+    let question = Question::Carve { at };
+    assert_eq!(rt; read_words(&words), Ok(Request::Evidence { db, question }));
+    Ok(())
+}
+
+#[test]
 fn other_words_are_outside_the_grammar(rt: HostRuntime) -> Result<(), Fail> {
     let alloc = rt.alloc();
     for words in [
@@ -134,6 +148,9 @@ fn other_words_are_outside_the_grammar(rt: HostRuntime) -> Result<(), Fail> {
         &["a.db", "explain", "part=wal", "byte=01"],
         &["a.db", "explain", "part=wal", "byte=18446744073709551616"],
         &["a.db", "generations", "at=0"],
+        &["a.db", "map", "at=all"],
+        &["a.db", "carve", "at=All"],
+        &["a.db", "carve", "spill=no"],
         &["a.db", "page", "no=1", "at"],
         &["a.db", "page", "no=1", "at="],
         &["a.db", "page", "no=1", "at=01"],

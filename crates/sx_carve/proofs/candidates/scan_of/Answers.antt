@@ -1,5 +1,6 @@
 -- The image and those behind it.
 use Rattle.std.proofs.Common.{◌+◌, ◌∙◌, sym, ap, ◌++◌, option_copied, take, drop}
+use Rattle.sx_carve.specs.Candidates.{told_by}
 use Rattle.sx_carve.specs.Candidates.{carved_from}
 use Rattle.sx_carve.specs.Evidence.{evidence_bytes}
 use Rattle.sx_carve.specs.Scan.{images_rest}
@@ -18,4 +19,4 @@ returns c =
     let size = c.page_size.ensures ∙ c.requires.fit.size in
     let bytes = c.page_at-bytes.ensures.bytes ∙ ap (λ n. take n (drop c.image-image.result.offset c.file_of-file.result.now)) size ∙ ap (λ file. take c.args.images.now.page_size (drop c.image-image.result.offset file)) c.file_of-file.ensures in
     one_image c.args.ctx.now.usable c.args.ctx.now.shapes.now c.args.owned.now files c.args.images.now c.args.number c.image-image.result c.image-image.ensures
-    ∙ ap (λ front. front ++ rest) (sym (c.start.ensures ∙ ap (carved_from c.args.ctx.now.usable c.args.ctx.now.shapes.now c.args.owned.now c.args.number 0) bytes))
+    ∙ ap (λ front. front ++ rest) (sym (c.start.ensures ∙ ap (carved_from c.args.ctx.now.usable c.args.ctx.now.shapes.now (told_by c.args.owned.now) c.args.number 0) bytes))

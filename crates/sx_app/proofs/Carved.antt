@@ -1,0 +1,67 @@
+-- What was prepared for `carve` is what its definition says.
+use Rattle.std.proofs.Common.{◌≡◌, ◌≤◌, ℕ, List, length, Option, Some, None, refl, sym, ap, ◌∙◌, subst}
+use Rattle.sx_base.specs.declared.evidence.Part.TheVariants.{Database, Wal, Journal}
+use Rattle.sx_base.specs.declared.layout.Layout.{Layout}
+use Rattle.sx_base.specs.declared.moment.Moment.{Moment}
+use Rattle.sx_bytes.specs.declared.encoding.Encoding.{Encoding}
+use Rattle.sx_moment.specs.Gathered.{Gathered, bytes_in}
+use Rattle.sx_moment.specs.Heads.{layout_of, encoding_at, IsLayout}
+use Rattle.std.specs.Option.{option_map}
+use Rattle.sx_images.specs.Images.{Table, images_of, length_of, or_none, table_of}
+use Rattle.sx_grammar.specs.declared.shape.ShapeKey.{ShapeKey}
+use Rattle.sx_carve.specs.Candidates.{told_by, candidates_of}
+use Rattle.sx_carve.specs.Evidence.{evidence_bytes, AreOf, Fit}
+use Rattle.sx_carve.proofs.TellingLemmas.{same_told}
+use Rattle.sx_carve_text.specs.Carve.{carve_lines}
+use Rattle.sx_app.specs.Labels.{images_in, lengths_in}
+use Rattle.sx_app.specs.Carving.{told_under, shapes_at, carve_at, IsCarving}
+use Rattle.sx_app.specs.declared.carving.Carving.{Carving}
+use Rattle.sx_app.proofs.Layouts.{image_size_is, page_size_is}
+
+file_length : (file : Option (List ℕ)) → or_none (option_map length file) ≡ length (bytes_in file)
+file_length None = refl
+file_length (Some bytes) = refl
+
+lengths_are : (case : Gathered) → (images_in case).lengths ≡ lengths_in case
+unfolding images_in table_of
+lengths_are case = refl
+
+-- the images are those of the case's files
+pub are_of : (case : Gathered) (images : Table) → images ≡ images_in case → AreOf (evidence_bytes case.database case.wal_bytes case.journal_bytes) images
+are_of case images is =
+    let lengths = ap (λ (t : Table). t.lengths) is ∙ lengths_are case in
+    record {
+      database = ap (λ l. length_of l Database) lengths;
+      wal = ap (λ l. length_of l Wal) lengths ∙ file_length case.wal_bytes;
+      journal = ap (λ l. length_of l Journal) lengths ∙ file_length case.journal_bytes;
+    }
+
+-- what was prepared fits together
+pub fits : (case : Gathered) (moments : List Moment) (last : Moment) (made : Carving) (layout : Layout) (shapes : List ShapeKey) → IsCarving case moments last made
+    → IsLayout layout → layout ≡ layout_of case last → shapes ≡ made.shapes.items → Fit layout.usable shapes made.images made.owned
+fits case moments last made layout shapes is ranges same given =
+    let size : layout.page_size ≡ made.images.page_size
+    = ap (λ (l : Layout). l.page_size) same ∙ page_size_is case last ∙ sym (image_size_is case) ∙ ap (λ (t : Table). t.page_size) (sym is.images) in
+    record {
+      count = is.count;
+      size = is.size;
+      large = subst (λ n. n ≤ 65536) size ranges.size.greatest;
+      least = ranges.least;
+      within = subst (λ n. layout.usable ≤ n) size ranges.within;
+      rise = rw given is.rise;
+    }
+
+-- and the lines over it are those of the definition
+pub lines_are : (case : Gathered) (moments : List Moment) (last : Moment) (made : Carving) (encoding : Encoding) (usable : ℕ) (shapes : List ShapeKey)
+    (bytes : List ℕ) (log rollback : Option (List ℕ)) → IsCarving case moments last made → encoding ≡ encoding_at case last → usable ≡ (layout_of case last).usable
+    → shapes ≡ made.shapes.items → bytes ≡ case.database → log ≡ case.wal_bytes → rollback ≡ case.journal_bytes
+    → carve_lines encoding (images_of made.images) (candidates_of usable shapes (told_by made.owned) made.images.page_size (evidence_bytes bytes log rollback) (images_of made.images))
+    ≡ carve_at case moments last
+unfolding carve_at
+lines_are case moments last made encoding usable shapes bytes log rollback is encoded used given stored logged rolled =
+    let images = ap images_of is.images in
+    let size = ap (λ (t : Table). t.page_size) is.images ∙ image_size_is case in
+    rw (encoded, used, given ∙ is.shapes, stored, logged, rolled, images, size)
+    (ap (carve_lines (encoding_at case last) (images_of (images_in case)))
+    (same_told (layout_of case last).usable (shapes_at case last) (told_by made.owned) (told_under case moments) case.header.page_size
+    (evidence_bytes case.database case.wal_bytes case.journal_bytes) (images_of (images_in case)) is.told))
