@@ -243,6 +243,13 @@ def tables():
     write("utf_16_big", changed(UTF_16, (59, 3)))
 
 
+def remains():
+    """Bytes in the gap of the plain table's page that read as rows."""
+    inner = [6, 9, 2, 20, 2, 7, 2, 0]
+    write("start_inside_a_candidate", changed(PLAIN, *((912 + at, byte) for at, byte in enumerate(inner))))
+    write("record_into_a_cell", changed(PLAIN, *((992 + at, byte) for at, byte in enumerate(inner[:4]))))
+
+
 def nodes():
     inner = [5, 0, 0, 0, 1, 1, 251, 0, 0, 0, 0, 3, 1, 251]
     write(
@@ -278,3 +285,4 @@ if __name__ == "__main__":
     nodes()
     tables()
     labels()
+    remains()
