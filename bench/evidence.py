@@ -86,6 +86,23 @@ def craft(path, pages, frames):
     write_log(f"{path}-wal", frames)
 
 
+def older_runs(path, runs, length, page_size=PAGE):
+    """A database of one page, and a log in good order whose frames are all of older generations: so many runs of so many
+    frames that continue one another, each frame a commit of an empty leaf. Each run has salts of its own."""
+    write_database(path, 1, page_size)
+    page = leaf(page_size, 2)
+    over_page = Sums(page)
+    front = struct.pack(">II", 2, 2)
+    head = struct.pack(">IIIIII", 0x377F0683, 3007000, page_size, 0, *SALTS)
+    with open(f"{path}-wal", "wb") as file:
+        file.write(head + struct.pack(">II", *summed(head)))
+        for run in range(runs):
+            first, second = run, length
+            for _ in range(length):
+                file.write(front + struct.pack(">IIII", SALTS[0] + 1 + run, SALTS[1], first, second) + page)
+                first, second = over_page.after(*summed(front, first, second))
+
+
 def varint(number):
     """A number's spelling of one to five bytes."""
     spelled = [number & 127]

@@ -39,9 +39,9 @@ unfoldable pub columns_text : Encoding → List Seen → List ℕ
 columns_text encoding columns = flat_map (λ column. 32 ∷ seen_text encoding column) columns
 
 -- the first overflow page of a payload that isn't wholly there
-abbrev pub overflow_text : Option ℕ → List ℕ
-overflow_text None = []
-overflow_text (Some page) = codes " overflow " ++ decimal page
+abbrev pub first_overflow_text : Option ℕ → List ℕ
+first_overflow_text None = []
+first_overflow_text (Some page) = codes " overflow " ++ decimal page
 
 -- where a candidate stands: its file, its offset in bytes from the start of that, its length in bytes
 unfoldable pub place_text : Image → ℕ → ℕ → List ℕ
@@ -54,7 +54,7 @@ page_text image = codes " page " ++ decimal image.page ++ codes " " ++ class_nam
 -- what is read of it
 unfoldable pub sighting_text : Encoding → Sighting → List ℕ
 sighting_text encoding sighting =
-    codes " rowid " ++ (found_rowid sighting.rowid ++ (columns_text encoding sighting.columns ++ overflow_text sighting.overflow))
+    codes " rowid " ++ (found_rowid sighting.rowid ++ (columns_text encoding sighting.columns ++ first_overflow_text sighting.overflow))
 
 -- the line of a candidate in this image
 unfoldable pub found_line : Encoding → Image → Carved → List ℕ

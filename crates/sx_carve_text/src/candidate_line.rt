@@ -2,7 +2,7 @@
 ghost use Rattle.std.specs.Prelude.{◌≡◌, ◌++◌, ◌∷◌, ◌<◌, ◌^◌, OnOk, string_bytes};
 ghost use Rattle.sx_grammar.specs.Sightings.{seen_of};
 ghost use Rattle.sx_lines.specs.Lines.{ended};
-ghost use Rattle.sx_carve_text.specs.Carve.{alias_mark, form_word, found_rowid, seen_text, columns_text, overflow_text, place_text, page_text, sighting_text, found_line};
+ghost use Rattle.sx_carve_text.specs.Carve.{alias_mark, form_word, found_rowid, seen_text, columns_text, first_overflow_text, place_text, page_text, sighting_text, found_line};
 
 use std::alloc::AllocError;
 use sx_bytes::Encoding;
@@ -131,7 +131,7 @@ fn put_column(encoding: Encoding, column: Shown<'_>, line: &mut String) -> Resul
 
 /// Puts the first overflow page, where there is one, behind what `line` holds.
 fn put_overflow(overflow: Option<u32>, line: &mut String) -> Result<(), AllocError>
-    ensures { OnOk result (string_bytes line.new ≡ string_bytes line.old ++ overflow_text overflow) }
+    ensures { OnOk result (string_bytes line.new ≡ string_bytes line.old ++ first_overflow_text overflow) }
 {
     match overflow {
         Some(page) => write!(line, " overflow {page}"),

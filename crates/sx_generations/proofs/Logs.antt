@@ -14,7 +14,7 @@ use Rattle.sx_wal.specs.State.{state_of, has_slots, has_magic, are_same, two_wor
 use Rattle.sx_wal.specs.Frames.{whole_frames, slot_count, has_salts, is_valid}
 use Rattle.sx_wal.specs.Wal.{Wal, commits_of, is_within, class_past, class_of, slot_of, log_of, wal_of}
 use Rattle.sx_wal.proofs.LogLemmas.{slot_stands}
-use Rattle.sx_generations.specs.Older.{AreSlotsOf, AreTestedFrames, is_valid_class}
+use Rattle.sx_generations.specs.Older.{AreSlotsOf, IsLog, AreTestedFrames, is_valid_class}
 
 -- the tests that a state with slots passed
 header_states : (short magic version possible same : Bool) (rest : WalState)

@@ -1,8 +1,8 @@
 -- The streaks of a row are the maximal lists of at least two neighbours, each once and in order.
-use Rattle.std.proofs.Common.{◌≡◌, ◌↔◌, ℕ, zero, suc, ◌+◌, ◌-◌, ◌<◌, ◌≤◌, Bool, true, false, ◌&&◌, ◌⊎◌, not, cond, List, [], ◌∷◌, length, map, get_or, ltb, inl, inr, refl, sym, ap, subst, ◌∙◌, arith, All, Contains}
+use Rattle.std.proofs.Common.{◌≡◌, ◌↔◌, ℕ, zero, suc, ◌+◌, ◌-◌, ◌<◌, ◌≤◌, Bool, true, false, ◌&&◌, not, cond, List, [], ◌∷◌, map, ltb, inl, inr, refl, sym, ap, subst, ◌∙◌, arith, All, Contains}
 use Rattle.std.specs.List.{filter, range_with_len}
 use Rattle.std.specs.List.Sorted.{IsStrictlyIncreasing}
-use Rattle.std.proofs.lemmas.Bool.{cases_lt, cases_Bool, and_parts, and_from, not-true, ltb-true, lt-ltb, le-ltb}
+use Rattle.std.proofs.lemmas.Bool.{cases_lt, and_parts, and_from, not-true, ltb-true, lt-ltb, le-ltb}
 use Rattle.std.proofs.lemmas.List.{get_or-map, length-map}
 use Rattle.std.proofs.lemmas.List.Elements.{filter_passes, All-weaker, All-map, All-contains}
 use Rattle.std.proofs.lemmas.List.FromFn.{length-range_with_len, get_or-range_with_len}
@@ -10,7 +10,7 @@ use Rattle.std.proofs.lemmas.List.Kept.{IsStrictlyIncreasing-filter}
 use Rattle.sx_generations.specs.declared.neighbours.Streak.{Streak}
 use Rattle.sx_generations.specs.Neighbours.{is_followed, follows, begins, links_from, streak_at, streaks_of, IsStreak}
 use Rattle.sx_generations.proofs.Walks.{links_are, links_each, links_stop}
-use Rattle.sx_generations.proofs.Streaks.{links_within, IsWithin, within_at}
+use Rattle.sx_generations.proofs.Streaks.{links_within, within_at}
 
 -- ---- each streak is maximal
 

@@ -1,7 +1,7 @@
 -- Records behind the zeroed header of a rollback journal that confirm one another ("Database File Format", section "The
 -- Rollback Journal"). The checksum of a record is a nonce and some bytes of its page, added up; the header that held the
 -- nonce is gone, but the records of one transaction still give the same one. Records are numbered from 0.
-use Rattle.std.specs.Prelude.{◌≡◌, ℕ, ◌+◌, ◌-◌, ◌<◌, ◌%◌, ◌^◌, Bool, true, false, ◌==◌, if◌then◌else◌, List, [], length, map, take, drop, slice_index, Some}
+use Rattle.std.specs.Prelude.{◌≡◌, ℕ, ◌+◌, ◌-◌, ◌%◌, ◌^◌, Bool, true, false, ◌==◌, if◌then◌else◌, List, [], length, map, take, drop, slice_index, Some}
 use Rattle.sx_bytes.specs.PageSize.{IsPageSize}
 use Rattle.sx_journal.specs.Entries.{sampled}
 use Rattle.sx_journal.specs.Journal.{Journal, journal_of}

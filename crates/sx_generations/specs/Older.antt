@@ -1,7 +1,7 @@
 -- Runs of frames of older generations in a write-ahead log ("WAL File Format", "Checksum Algorithm"). A log that is begun
 -- again leaves the frames that it hasn't written over yet, and their checksums still go on from one to the next. Slots and
 -- frames are numbered from 0.
-use Rattle.std.specs.Prelude.{◌≡◌, ℕ, ◌+◌, ◌-◌, ◌<◌, ◌^◌, Bool, true, false, not, ◌&&◌, ◌==◌, List, length, map, slice_get, Some}
+use Rattle.std.specs.Prelude.{◌≡◌, ℕ, ◌+◌, ◌-◌, Bool, true, false, not, ◌&&◌, ◌==◌, List, length, map, slice_get, Some}
 use Rattle.std.specs.List.{filter, range_with_len}
 use Rattle.sx_base.specs.Bytes.{word_at}
 use Rattle.sx_base.specs.declared.moment.Class.{Class}
@@ -17,8 +17,8 @@ use Rattle.sx_generations.specs.declared.runs.Run.{Run}
 use Rattle.sx_generations.specs.Neighbours.{streaks_of}
 
 -- the number of the page in frame i
-abbrev pub number_at : ℕ → List ℕ → ℕ → ℕ
-number_at page_size bytes i = word_at bytes (frame_at page_size i)
+abbrev pub page_number_at : ℕ → List ℕ → ℕ → ℕ
+page_number_at page_size bytes i = word_at bytes (frame_at page_size i)
 
 -- the salts of frame i
 abbrev pub salts_at : ℕ → List ℕ → ℕ → ℕ × ℕ
@@ -30,7 +30,7 @@ stored_sums page_size bytes i = two_words_at bytes (frame_at page_size i + 16)
 
 -- slot i isn't valid, and has a page number
 unfoldable pub may_be_older : ℕ → List ℕ → ℕ → Bool
-may_be_older page_size bytes i = not (is_valid page_size bytes i) && not (number_at page_size bytes i == 0)
+may_be_older page_size bytes i = not (is_valid page_size bytes i) && not (page_number_at page_size bytes i == 0)
 
 -- slot i + 1 has the salts of slot i
 unfoldable pub keeps_salts : ℕ → List ℕ → ℕ → Bool

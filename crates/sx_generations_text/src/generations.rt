@@ -3,7 +3,7 @@ ghost use Rattle.std.specs.Prelude.{◌≡◌, ℕ, ◌<◌, List, IfOk, string_
 ghost use Rattle.sx_generations_text.specs.Generations.{generations_lines};
 ghost use Rattle.sx_wal.specs.declared.slot.Slot.{Slot};
 ghost use Rattle.sx_generations.specs.declared.runs.Run.{Run as OlderRun};
-ghost use Rattle.sx_generations_text.specs.Rest.{IsPlace, IsNext, IsWritten};
+ghost use Rattle.sx_generations_text.specs.Rest.{IsPlace, IsStep, IsWritten};
 ghost use Rattle.sx_generations_text.specs.declared.generations_line.GenerationsLine.TheVariants.{Run, Commit, Group};
 
 use crate::generations_line::GenerationsLine;
@@ -55,7 +55,7 @@ fn put_run_or_groups(
     i: u32,
     line: &mut String,
 ) -> Result<GenerationsLine, AllocError>
-    ensures { (slots : List Slot) → IfOk result (λ next. IsNext slots older.now confirmed.now (Run i) next (string_bytes line.new)) }
+    ensures { (slots : List Slot) → IfOk result (λ next. IsStep slots older.now confirmed.now (Run i) next (string_bytes line.new)) }
 {
     if i < older.runs() {
         put_run_line(i, older.run(i), line)?;
@@ -77,7 +77,7 @@ fn put_commit_or_run(
     line: &mut String,
 ) -> Result<GenerationsLine, AllocError>
     requires { i < length older.now }
-    ensures { IfOk result (λ next. IsNext wal.now.slots older.now confirmed.now (Commit i k) next (string_bytes line.new)) }
+    ensures { IfOk result (λ next. IsStep wal.now.slots older.now confirmed.now (Commit i k) next (string_bytes line.new)) }
 {
     let _runs = older.runs();
     if k < older.run(i).commits {

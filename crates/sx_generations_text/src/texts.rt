@@ -1,7 +1,7 @@
 //! The single lines of `generations`.
 ghost use Rattle.std.specs.Prelude.{◌≡◌, ◌+◌, ◌<◌, ◌≤◌, ◌^◌, ◌++◌, sum_by, length, OnOk, string_bytes, slice_get};
 ghost use Rattle.sx_lines.specs.Lines.{ended};
-ghost use Rattle.sx_generations_text.specs.Generations.{word_digits, runs_line, run_line, size_of, commit_line, groups_line, group_line, places};
+ghost use Rattle.sx_generations_text.specs.Generations.{word_digits, runs_line, older_run_line, size_of, commit_line, groups_line, group_line, first_to_last};
 
 use std::alloc::AllocError;
 use sx_generations::{Confirmed, Group, Older, Run};
@@ -30,13 +30,13 @@ fn commits_in_all(older: &Older) -> u64
 }
 
 /// Puts the line of run `i` into `line`.
-#[tactic(auto, unfolding(crate::specs::Generations::run_line, crate::specs::Generations::word_digits))]
+#[tactic(auto, unfolding(crate::specs::Generations::older_run_line, crate::specs::Generations::word_digits))]
 pub fn put_run_line(i: u32, run: Run, line: &mut String) -> Result<(), AllocError>
-    ensures { OnOk result (string_bytes line.new ≡ ended (run_line i run)) }
+    ensures { OnOk result (string_bytes line.new ≡ ended (older_run_line i run)) }
 {
     line.clear();
     write!(line, "run {i} slots ")?;
-    put_places(run.first, run.slots, line)?;
+    put_first_to_last(run.first, run.slots, line)?;
     let (salt1, salt2) = (run.salt1, run.salt2);
     writeln!(line, " salts {salt1:08x} {salt2:08x}")
 }
@@ -79,14 +79,14 @@ pub fn put_group_line(i: u32, group: Group, line: &mut String) -> Result<(), All
 {
     line.clear();
     write!(line, "group {i} records ")?;
-    put_places(group.first, group.entries, line)?;
+    put_first_to_last(group.first, group.entries, line)?;
     let nonce = group.nonce;
     writeln!(line, " nonce {nonce:08x}")
 }
 
-// Puts the places of so many neighbours behind what `line` holds.
-fn put_places(first: u32, count: u32, line: &mut String) -> Result<(), AllocError>
-    ensures { OnOk result (string_bytes line.new ≡ string_bytes line.old ++ places first count) }
+// Puts the first and the last place of so many neighbours behind what `line` holds.
+fn put_first_to_last(first: u32, count: u32, line: &mut String) -> Result<(), AllocError>
+    ensures { OnOk result (string_bytes line.new ≡ string_bytes line.old ++ first_to_last first count) }
 {
     let last = (u64::from(first) + u64::from(count)).saturating_sub(1);
     write!(line, "{first}-{last}")

@@ -111,6 +111,7 @@ impl OwnedRuns {
     /// Whether a freeblock begins at the offset `at` of an image.
     ///
     /// The cost is logarithmic in the image's freeblocks.
+    #[inline]
     pub fn is_block(&self, image: u32, at: u32) -> bool
         requires { image < images_of self.now }
         ensures { result ≡ block_at self.now image at }

@@ -47,6 +47,7 @@ impl Places {
     }
 
     /// Whether it has this place. The cost is logarithmic in the runs.
+    #[inline]
     pub fn contains(&self, at: u32) -> bool
         ensures { result ≡ is_owned self.now at }
     {
@@ -152,6 +153,7 @@ fn joined_from(runs: &[Run], run: Run) -> (usize, Run)
 }
 
 /// Whether one of the runs holds a place.
+#[inline]
 fn holds_place(runs: &[Run], at: u32) -> bool
     requires { Apart 0 runs.now }
     ensures { result ≡ is_owned runs.now at }

@@ -332,6 +332,9 @@ fn a_key_says_the_labels(rt: HostRuntime) -> Result<(), Fail> {
             fault: 0
         }
     );
+    let mut runs = map.into_runs();
+    let first = Span { start: 0, len: 4 };
+    assert_eq!(rt; runs.next(), Some((first, Label::Link)));
     Ok(())
 }
 

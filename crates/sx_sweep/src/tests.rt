@@ -1,12 +1,14 @@
 //! What one page of a small database owns.
 use super::*;
+use std::alloc::{AllocError, Global};
 use std::test::Fail;
 use sx_base::{Moment, Span};
 use sx_bytes::can_be_page_size;
 use sx_header::read_header;
-use sx_images::{Lengths, images};
+use sx_images::{ImageTable, Lengths, images};
 use sx_journal::read_journal;
 use sx_moment::{Case, Evidence};
+use sx_owned::OwnedRuns;
 use sx_wal::read_wal;
 
 /// A page 1 of 512 bytes that is a table leaf without cells, with a freeblock of 20 bytes at 300.
@@ -19,32 +21,48 @@ fn first_page() -> [u8; 512] {
     page
 }
 
-#[test]
-fn a_page_owns_its_headers_and_names_its_freeblock(rt: HostRuntime) -> Result<(), Fail> {
-    let alloc = rt.alloc();
-    let page = first_page();
-    let Ok(header) = read_header(&page) else {
-        return Err(Fail::from("the page has a header"));
-    };
-    let evidence = Evidence {
-        database: &page,
-        wal: None,
-        journal: None,
-    };
-    let case = Case::gather(alloc, header, evidence)?;
+/// The one image of a database of 512 bytes.
+fn table(alloc: Global) -> Result<Option<ImageTable>, AllocError> {
     let lengths = Lengths {
         database: 512,
         wal: None,
         journal: None,
     };
     if !can_be_page_size(512) {
-        return Err(Fail::from("a page has 512 bytes"));
+        return Ok(None);
     }
     let wal = read_wal(alloc, None, 512)?;
     let journal = read_journal(alloc, None, 512)?;
-    let table = images(alloc, 512, lengths, &wal, &journal)?;
-    assert_eq!(rt; table.page_size(), case.header().page_size);
-    let owned = sweep(alloc, &case, &table, &[Moment::File])?;
+    Ok(Some(images(alloc, 512, lengths, &wal, &journal)?))
+}
+
+/// What is owned of these images under some moments of a database of these bytes.
+fn swept(
+    alloc: Global,
+    page: &[u8; 512],
+    table: &ImageTable,
+    moments: &[Moment],
+) -> Result<Option<OwnedRuns>, AllocError> {
+    let evidence = Evidence {
+        database: page,
+        wal: None,
+        journal: None,
+    };
+    let Ok(header) = read_header(page) else {
+        return Ok(None);
+    };
+    let case = Case::gather(alloc, header, evidence)?;
+    if table.page_size() != case.header().page_size {
+        return Ok(None);
+    }
+    Ok(Some(sweep(alloc, &case, table, moments)?))
+}
+
+#[test]
+fn a_page_owns_its_headers_and_names_its_freeblock(rt: HostRuntime) -> Result<(), Fail> {
+    let page = first_page();
+    let table = table(rt.alloc())?.ok_or("a page has 512 bytes")?;
+    let owned = swept(rt.alloc(), &page, &table, &[Moment::File])?.ok_or("a header")?;
     assert_eq!(rt; owned.images(), 1);
     let free = Span {
         start: 108,
@@ -53,9 +71,5 @@ fn a_page_owns_its_headers_and_names_its_freeblock(rt: HostRuntime) -> Result<()
     assert_eq!(rt; owned.unowned(0).next(), Some(free));
     assert!(rt; owned.is_block(0, 300));
     assert!(rt; !owned.is_block(0, 301));
-    let none = sweep(alloc, &case, &table, &[])?;
-    assert_eq!(rt; none.images(), 1);
-    let whole = Span { start: 0, len: 512 };
-    assert_eq!(rt; none.unowned(0).next(), Some(whole));
     Ok(())
 }

@@ -133,6 +133,7 @@ fn other_words_are_outside_the_grammar(rt: HostRuntime) -> Result<(), Fail> {
         &["a.db", "explain", "part=WAL", "byte=1"],
         &["a.db", "explain", "part=wal", "byte=01"],
         &["a.db", "explain", "part=wal", "byte=18446744073709551616"],
+        &["a.db", "generations", "at=0"],
         &["a.db", "page", "no=1", "at"],
         &["a.db", "page", "no=1", "at="],
         &["a.db", "page", "no=1", "at=01"],
