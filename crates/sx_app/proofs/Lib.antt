@@ -4,3 +4,4 @@ pub mod Examined
 pub mod Complete
 pub mod Layouts
 pub mod Indexes
+pub mod AllMoments

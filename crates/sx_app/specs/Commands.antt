@@ -9,6 +9,7 @@ use Rattle.sx_words.specs.Words as words
 use Rattle.sx_app.specs.Evidence.{◌>>=◌}
 use Rattle.sx_app.specs.Labels.{explain_at, map_at, MayMissByte}
 use Rattle.sx_app.specs.Generations.{generations_of}
+use Rattle.sx_app.specs.Histories.{histories_of}
 use Rattle.sx_app.specs.Moments.{moment_of, MayMiss}
 use Rattle.sx_app.specs.Tables.{table_lines, MayMissTable}
 use Rattle.sx_app.specs.declared.refused.Refused.{Refused}
@@ -26,6 +27,7 @@ reply_over (words.Map at) case = moment_of case at >>= λ moment. Ok (map_at cas
 reply_over (words.Page number at) case = moment_of case at >>= λ moment. Ok (page_lines case moment number)
 reply_over (words.Explain place at) case = moment_of case at >>= λ moment. explain_at case moment place
 reply_over words.Generations case = Ok (generations_of case)
+reply_over (words.History table rowid) case = Ok (histories_of case table rowid)
 
 -- which moments, tables and bytes that aren't there a question may meet: one row a command
 abbrev pub MayMeetOver : words.Question → Refused → Type 0
@@ -35,3 +37,4 @@ MayMeetOver (words.Map at) refused = MayMiss at refused
 MayMeetOver (words.Page number at) refused = MayMiss at refused
 MayMeetOver (words.Explain place at) refused = MayMissByte at refused
 MayMeetOver words.Generations refused = ⊥
+MayMeetOver (words.History table rowid) refused = ⊥

@@ -12,6 +12,7 @@ ghost use Rattle.sx_app.specs.Stages.{MayMeet, Deciding};
 
 use crate::finish::finish;
 use crate::generations::generations_lines;
+use crate::histories::HistoryLines;
 use crate::labels::{explain_lines, headless_lines, images_in, map_lines, roots_at};
 use crate::moments::{moment_meant, snapshot_asked};
 use crate::refused::Refused;
@@ -36,7 +37,8 @@ pub fn part_named(question: &Question<'_>) -> Part
         | Question::Show { .. }
         | Question::Map { .. }
         | Question::Page { .. }
-        | Question::Generations => Part::Database,
+        | Question::Generations
+        | Question::History { .. } => Part::Database,
     }
 }
 
@@ -58,6 +60,10 @@ pub fn answer_question<W: Sink>(
         Question::Page { no, at } => finish(alloc, question, page_lines(case, *no, *at), out),
         Question::Explain { place, at } => answer_explain(alloc, question, case, *place, *at, out),
         Question::Generations => finish(alloc, question, generations_lines(alloc, case), out),
+        Question::History { table, rowid } => {
+            let lines = HistoryLines::new(alloc, case, table, *rowid);
+            finish(alloc, question, Ok(lines), out)
+        }
     }
 }
 

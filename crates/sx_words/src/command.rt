@@ -13,6 +13,7 @@ pub enum Command {
     Page,
     Explain,
     Generations,
+    History,
 }
 
 /// The command of a word, where it is one.
@@ -26,6 +27,7 @@ pub fn command_named(word: &str) -> Option<Command>
         "page" => Some(Command::Page),
         "explain" => Some(Command::Explain),
         "generations" => Some(Command::Generations),
+        "history" => Some(Command::History),
         _ => None,
     }
 }
@@ -46,6 +48,7 @@ impl Command {
                 Wanted::Allowed(Key::At),
             ],
             Command::Generations => &[],
+            Command::History => &[Wanted::Required(Key::Table), Wanted::Required(Key::Rowid)],
         }
     }
 }
