@@ -267,6 +267,17 @@ def nodes():
     write("largest_page", placed((0, changed(EMPTY, (16, 0), (17, 1), (105, 0))), size=65536))
 
 
+def histories():
+    """Rowids below 0 and twice, a table that goes and comes again with another root, and a table with an index's tree."""
+    write("rowid_twice", changed(PLAIN, (1005, 1)))
+    lowest = placed((0, PLAIN[:512]), (512, [13, 0, 0, 0, 1, 1, 238, 0, 1, 238]), (1006, [8, 192, 128, 128, 128, 128, 128, 128, 128, 0, 4, 0, 19, 1, 122, 111, 101, 5]), size=1024)
+    write("lowest_rowid", lowest)
+    moved = changed(FIRST, (31, 3), (461, 3))
+    write("table_again", PLAIN, log(False, (1, 2, EMPTY), (1, 0, moved), (3, 3, REPLACED[512:])))
+    index = placed((0, PLAIN[:512]), (512, [10, 0, 0, 0, 1, 1, 247, 0, 1, 247]), (1015, [8, 4, 9, 19, 1, 97, 110, 110, 10]), size=1024)
+    write("index_in_place_of_a_table", index)
+
+
 def labels():
     free = (0, changed(PLAIN, (31, 4), (35, 3), (39, 2)))
     write("free_pages", placed(free, (1024, words(0, 1, 4)), (1536, ROWS)))
@@ -284,5 +295,6 @@ if __name__ == "__main__":
     generations()
     nodes()
     tables()
+    histories()
     labels()
     remains()

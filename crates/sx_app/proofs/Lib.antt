@@ -5,3 +5,4 @@ pub mod Complete
 pub mod Layouts
 pub mod Indexes
 pub mod Carved
+pub mod AllMoments

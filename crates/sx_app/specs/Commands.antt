@@ -10,6 +10,7 @@ use Rattle.sx_app.specs.Evidence.{◌>>=◌}
 use Rattle.sx_app.specs.Carving.{latest, selected, carve_at}
 use Rattle.sx_app.specs.Labels.{explain_at, map_at, MayMissByte}
 use Rattle.sx_app.specs.Generations.{generations_of}
+use Rattle.sx_app.specs.Histories.{histories_of}
 use Rattle.sx_app.specs.Moments.{moment_of, MayMiss}
 use Rattle.sx_app.specs.Tables.{table_lines, MayMissTable}
 use Rattle.sx_app.specs.declared.refused.Refused.{Refused}
@@ -28,6 +29,7 @@ reply_over (words.Page number at) case = moment_of case at >>= λ moment. Ok (pa
 reply_over (words.Carve which) case = moment_of case (latest which) >>= λ moment. Ok (carve_at case (selected case which moment) moment)
 reply_over (words.Explain place at) case = moment_of case at >>= λ moment. explain_at case moment place
 reply_over words.Generations case = Ok (generations_of case)
+reply_over (words.History table rowid) case = Ok (histories_of case table rowid)
 
 -- which moments, tables and bytes that aren't there a question may meet: one row a command
 abbrev pub MayMeetOver : words.Question → Refused → Type 0
@@ -38,3 +40,4 @@ MayMeetOver (words.Page number at) refused = MayMiss at refused
 MayMeetOver (words.Carve which) refused = MayMiss (latest which) refused
 MayMeetOver (words.Explain place at) refused = MayMissByte at refused
 MayMeetOver words.Generations refused = ⊥
+MayMeetOver (words.History table rowid) refused = ⊥

@@ -4,6 +4,8 @@ pub mod Refusals
 pub mod Tables
 pub mod GivenTables
 pub mod Generations
+pub mod Histories
+pub mod HistoryRest
 pub mod Commands
 pub mod Answers
 pub mod Stages

@@ -14,6 +14,7 @@ ghost use Rattle.sx_app.specs.Stages.{MayMeet, Deciding};
 use crate::carving::{carve_lines, latest, prepare};
 use crate::finish::finish;
 use crate::generations::generations_lines;
+use crate::histories::HistoryLines;
 use crate::labels::{explain_lines, headless_lines, images_in, map_lines, roots_at};
 use crate::moments::{moment_meant, snapshot_asked};
 use crate::refused::Refused;
@@ -39,7 +40,8 @@ pub fn part_named(question: &Question<'_>) -> Part
         | Question::Map { .. }
         | Question::Page { .. }
         | Question::Carve { .. }
-        | Question::Generations => Part::Database,
+        | Question::Generations
+        | Question::History { .. } => Part::Database,
     }
 }
 
@@ -62,6 +64,10 @@ pub fn answer_question<W: Sink>(
         Question::Carve { at } => answer_carve(alloc, question, case, *at, out),
         Question::Explain { place, at } => answer_explain(alloc, question, case, *place, *at, out),
         Question::Generations => finish(alloc, question, generations_lines(alloc, case), out),
+        Question::History { table, rowid } => {
+            let lines = HistoryLines::new(alloc, case, table, *rowid);
+            finish(alloc, question, Ok(lines), out)
+        }
     }
 }
 

@@ -9,6 +9,7 @@ mod evidence;
 mod examination;
 mod finish;
 mod generations;
+mod histories;
 mod labels;
 mod loaded;
 mod moments;

@@ -72,7 +72,7 @@ fn lines_of<'p, 'c, 'a>(
 
 /// The table of a name.
 #[tactic(auto, unfolding(crate::specs::Tables::table_named))]
-fn table_named(alloc: Global, snapshot: &Snapshot<'_, '_>, name: &str) -> Result<Table, Refused>
+pub fn table_named(alloc: Global, snapshot: &Snapshot<'_, '_>, name: &str) -> Result<Table, Refused>
     ensures told { Gives table_by result (table_named snapshot.now.case.now snapshot.now.moment name.now) }
     ensures may { IfErr result MayLack }
 {

@@ -67,8 +67,12 @@ fn put_last_line(counts: Counts, line: &mut String) -> Result<(), AllocError>
     writeln!(line, "rows {rows} faults {faults}")
 }
 
-/// Puts the line of an item into `line`, and answers whether it is that of a row.
-fn put_item<'a, P: Pages<'a>>(
+/// Puts the line of an item of a tree into `line`, in place of what that held, and answers whether it is that of a row.
+///
+/// The pages have so many usable bytes, from 480 to the page size, which is at most 65536, and their texts are in this
+/// encoding. The lengths were made for these pages; a payload that its cell doesn't hold whole is joined in `room`. It answers
+/// `AllocError` where memory runs out.
+pub fn put_item<'a, P: Pages<'a>>(
     pages: &P,
     usable: u32,
     encoding: Encoding,

@@ -8,6 +8,7 @@ mod show_line;
 mod values;
 
 pub use columns::Columns;
+pub use items::put_item;
 pub use show::ShowLines;
 
 #[cfg(test)]

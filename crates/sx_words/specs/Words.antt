@@ -1,5 +1,5 @@
 -- The grammar of the words: the request that a list of words asks for, if it asks for one.
-use Rattle.std.specs.Prelude.{ℕ, ◌==◌, Bool, false, not, ◌&&◌, ◌||◌, nat_lt, nat_le, if◌then◌else◌, List, [], ◌∷◌, map, is_some, count_by, slice_index, Option, None, Some, Result, Ok, Err, String, codes, bytes_eq, string_bytes}
+use Rattle.std.specs.Prelude.{ℕ, ℤ, pos, negsuc, ◌-◌, ◌==◌, Bool, false, not, ◌&&◌, ◌||◌, nat_lt, nat_le, if◌then◌else◌, List, [], ◌∷◌, map, is_some, count_by, slice_index, Option, None, Some, Result, Ok, Err, String, codes, bytes_eq, string_bytes}
 use Rattle.std.specs.List.{list_all, list_any, before_first, after_first}
 use Rattle.std.specs.Option.{option_map}
 use Rattle.std.specs.Str.{all_ascii_digits}
@@ -36,6 +36,7 @@ pub data Question : Type 0 where
   Carve : (at : Which) → Question
   Explain : (place : Place) → (at : When) → Question
   Generations : Question
+  History : (table : List ℕ) → (rowid : ℤ) → Question
 
 -- what words can ask for: a question about the evidence of a database's name
 pub data Asked : Type 0 where
@@ -56,7 +57,8 @@ command_named word =
     else (if bytes_eq word (codes "page") then Some commands.Page
     else (if bytes_eq word (codes "carve") then Some commands.Carve
     else (if bytes_eq word (codes "explain") then Some commands.Explain
-    else (if bytes_eq word (codes "generations") then Some commands.Generations else None))))))
+    else (if bytes_eq word (codes "generations") then Some commands.Generations
+    else (if bytes_eq word (codes "history") then Some commands.History else None)))))))
 
 -- the keys that the words behind a command may set, and which of them they must: one row a command
 abbrev pub keys_of : Command → List Wanted
@@ -67,6 +69,7 @@ keys_of commands.Page = Required No ∷ Allowed At ∷ []
 keys_of commands.Carve = Allowed At ∷ []
 keys_of commands.Explain = Required keys.Part ∷ Required keys.Byte ∷ Allowed At ∷ []
 keys_of commands.Generations = []
+keys_of commands.History = Required Table ∷ Required keys.Rowid ∷ []
 
 -- ---- words that set a key
 
@@ -76,6 +79,7 @@ key_name No = codes "no"
 key_name Table = codes "table"
 key_name keys.Part = codes "part"
 key_name keys.Byte = codes "byte"
+key_name keys.Rowid = codes "rowid"
 key_name At = codes "at"
 
 -- the byte `=`
@@ -149,6 +153,29 @@ unfoldable pub offset_of : Option (List ℕ) → Option ℕ
 offset_of None = None
 offset_of (Some text) = number_of 0 18446744073709551615 text
 
+-- what stands behind a minus sign, where a text begins with one
+abbrev pub after_minus : List ℕ → Option (List ℕ)
+after_minus [] = None
+after_minus (byte ∷ digits) = if byte == 45 then Some digits else None
+
+-- the number below 0 that is so far from it
+abbrev pub negated : ℕ → ℤ
+negated number = negsuc (number - 1)
+
+-- the number that is written with these digits behind a minus sign, or without one
+abbrev pub signed_by : List ℕ → Option (List ℕ) → Option ℤ
+signed_by text None = option_map pos (number_of 0 9223372036854775807 text)
+signed_by text (Some digits) = option_map negated (number_of 1 9223372036854775808 digits)
+
+-- the number of 64 bits that is written with its sign: there is no minus sign before 0, and never a plus sign
+abbrev pub signed_of : List ℕ → Option ℤ
+signed_of text = signed_by text (after_minus text)
+
+-- a rowid
+unfoldable pub rowid_of : Option (List ℕ) → Option ℤ
+rowid_of None = None
+rowid_of (Some text) = signed_of text
+
 -- the moment of a number: 0 is the file, and every other number a commit
 abbrev pub numbered : ℕ → Moment
 numbered number = if number == 0 then moments.File else moments.Commit number
@@ -198,6 +225,12 @@ abbrev pub carve_of : Option Which → Option Question
 carve_of (Some at) = Some (Carve at)
 carve_of None = None
 
+-- a table and a rowid, where both could be read
+abbrev pub history_of : Option (List ℕ) → Option ℤ → Option Question
+history_of (Some table) (Some rowid) = Some (History table rowid)
+history_of (Some table) None = None
+history_of None rowid = None
+
 -- a byte of a part, where both could be read
 abbrev pub byte_of : Option Part → Option ℕ → Option Place
 byte_of (Some part) (Some offset) = Some (record { part = part; offset = offset })
@@ -220,6 +253,7 @@ question_of commands.Carve words = carve_of (which_of (value_of At words))
 question_of commands.Explain words =
     explain_of (byte_of (part_of (value_of keys.Part words)) (offset_of (value_of keys.Byte words))) (when_of (value_of At words))
 question_of commands.Generations words = Some Generations
+question_of commands.History words = history_of (value_of Table words) (rowid_of (value_of keys.Rowid words))
 
 -- what a name, a command and the words behind it ask for
 unfoldable pub command_of : List ℕ → Option Command → List (List ℕ) → Option Asked
@@ -248,6 +282,7 @@ question_by (questions.Page number at) = Page number at
 question_by (questions.Carve at) = Carve at
 question_by (questions.Explain place at) = Explain place at
 question_by questions.Generations = Generations
+question_by (questions.History table rowid) = History table.now rowid
 
 -- what a request asks for, without where its names lie in memory
 abbrev pub asked_by : Request → Asked

@@ -14,6 +14,7 @@ pub enum Command {
     Carve,
     Explain,
     Generations,
+    History,
 }
 
 /// The command of a word, where it is one.
@@ -28,6 +29,7 @@ pub fn command_named(word: &str) -> Option<Command>
         "carve" => Some(Command::Carve),
         "explain" => Some(Command::Explain),
         "generations" => Some(Command::Generations),
+        "history" => Some(Command::History),
         _ => None,
     }
 }
@@ -49,6 +51,7 @@ impl Command {
                 Wanted::Allowed(Key::At),
             ],
             Command::Generations => &[],
+            Command::History => &[Wanted::Required(Key::Table), Wanted::Required(Key::Rowid)],
         }
     }
 }

@@ -13,6 +13,8 @@ pub enum Key {
     Part,
     /// The offset of a byte in its file.
     Byte,
+    /// The rowid of a row.
+    Rowid,
     /// The moment of the evidence.
     At,
 }
@@ -27,6 +29,7 @@ impl Key {
             Key::Table => "table",
             Key::Part => "part",
             Key::Byte => "byte",
+            Key::Rowid => "rowid",
             Key::At => "at",
         }
     }

@@ -10,6 +10,7 @@ ghost use Rattle.sx_words.specs.Words.{is_number, number_of};
 pub fn number_of(text: &str, least: u64, most: u64) -> Option<u64>
     ensures value { result ≡ number_of least most text.now }
     ensures within { IfSome result (λ number. number ≤ most) }
+    ensures above { IfSome result (λ number. least ≤ number) }
 {
     if !is_number(text) {
         return None;

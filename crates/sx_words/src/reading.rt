@@ -1,7 +1,7 @@
 //! The grammar of the words.
-ghost use Rattle.std.specs.Prelude.{◌≡◌, ◌∷◌, []};
+ghost use Rattle.std.specs.Prelude.{◌≡◌, ◌≤◌, ◌^◌, ◌∷◌, []};
 ghost use Rattle.std.specs.Option.{option_copied, option_map};
-ghost use Rattle.sx_words.specs.Words.{texts, request_of, command_of, question_of, show_of, map_of, page_of, carve_of, which_of, is_all, one_of, explain_of, byte_of, part_of, offset_of, command_named, page_number_of, when_of, asked, question_by, is_name, numbered};
+ghost use Rattle.sx_words.specs.Words.{texts, request_of, command_of, question_of, show_of, map_of, page_of, carve_of, which_of, is_all, one_of, explain_of, byte_of, part_of, offset_of, command_named, page_number_of, rowid_of, signed_of, after_minus, negated, history_of, when_of, asked, question_by, is_name, numbered};
 
 use crate::command::{Command, command_named};
 use crate::key::Key;
@@ -13,13 +13,21 @@ use sx_base::{Moment, Part, Place};
 /// The greatest number of a page, and of a moment.
 const GREATEST: u64 = 4_294_967_295;
 
+/// The greatest rowid.
+const GREATEST_ROWID: u64 = 9_223_372_036_854_775_807;
+
+/// How far from 0 the least rowid is.
+const LEAST_NEGATED: u64 = 9_223_372_036_854_775_808;
+
 /// Reads the words after the program's name.
 ///
 /// They are `<db> <command>` and words `key=value`, split at their first `=`. `<db>` isn't empty and isn't the word
 /// `drill`, which is kept for a command that reads no file. The commands are `timeline` and `generations`, which have no key;
-/// `show` with its keys `table`, which is required, and `at`; `map` with its key `at`; `page` with its keys `no`, from 1 to
+/// `show` with its keys `table`, which is required, and `at`; `history` with its keys `table` and `rowid`, which are both
+/// required; `map` with its key `at`; `page` with its keys `no`, from 1 to
 /// 4294967295, which is required, and `at`; `carve` with its key `at`, which can be `all` too; and `explain` with its keys `part`, which is `database`, `wal` or `journal`, and
 /// `byte`, from 0 to 18446744073709551615, which are both required, and `at`. `at` is `journal` or from 0 to 4294967295.
+/// `rowid` is from 0 to 9223372036854775807, or `-` and a number from 1 to 9223372036854775808.
 /// The keys come in any order, each at most once. A number is `0` or decimal digits that don't begin with 0.
 ///
 /// Every other list of words is outside the grammar, and `Usage` comes exactly there. The request borrows its names from
@@ -80,6 +88,10 @@ fn read_question<'w>(command: Command, words: &'w [String]) -> Option<Question<'
             when(value_of(Key::At, words)),
         ),
         Command::Generations => Some(Question::Generations),
+        Command::History => history(
+            value_of(Key::Table, words),
+            rowid(value_of(Key::Rowid, words)),
+        ),
     }
 }
 
@@ -124,6 +136,16 @@ fn explain(place: Option<Place>, at: Option<When>) -> Option<Question<'static>>
     })
 }
 
+// A table and a rowid, where both could be read.
+fn history(table: Option<&str>, rowid: Option<i64>) -> Option<Question<'_>>
+    ensures { option_map question_by result ≡ history_of (option_copied table.entry) rowid }
+{
+    Some(Question::History {
+        table: table?,
+        rowid: rowid?,
+    })
+}
+
 // A byte of a part, where both could be read.
 fn place(part: Option<Part>, byte: Option<u64>) -> Option<Place>
     ensures { result ≡ byte_of part byte }
@@ -164,6 +186,47 @@ fn page_number(value: Option<&str>) -> Option<u32>
         Some(number) => Some(number as u32),
         None => None,
     }
+}
+
+// A rowid: a number, or `-` and a number from 1.
+#[tactic(auto, unfolding(crate::specs::Words::rowid_of))]
+fn rowid(value: Option<&str>) -> Option<i64>
+    ensures { result ≡ rowid_of (option_copied value.entry) }
+{
+    signed(value?)
+}
+
+// The number that is written with its sign, where one of 64 bits is.
+fn signed(text: &str) -> Option<i64>
+    ensures { result ≡ signed_of text.now }
+{
+    match after_minus(text) {
+        Some(digits) => match number_of(digits, 1, LEAST_NEGATED) {
+            Some(number) => Some(negated(number)),
+            None => None,
+        },
+        None => match number_of(text, 0, GREATEST_ROWID) {
+            Some(number) => Some(number as i64),
+            None => None,
+        },
+    }
+}
+
+// What stands behind a minus sign, where a text begins with one.
+#[tactic(auto, using(crate::proofs::Signs::minus_is))]
+fn after_minus(text: &str) -> Option<&str>
+    ensures { option_copied result ≡ after_minus text.now }
+{
+    text.strip_prefix('-')
+}
+
+// The number below 0 that is so far from it.
+fn negated(number: u64) -> i64
+    requires least { 1 ≤ number }
+    requires most { number ≤ 2 ^ 63 }
+    ensures { result ≡ negated number }
+{
+    -((number - 1) as i64) - 1
 }
 
 // The moment that is asked for: the last where none is given.

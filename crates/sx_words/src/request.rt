@@ -26,6 +26,8 @@ pub enum Question<'w> {
     Explain { place: Place, at: When },
     /// `generations`: what older generations left in the log, and records behind a zeroed header of the journal.
     Generations,
+    /// `history table=T rowid=N`: what each moment holds under a table's name and a rowid.
+    History { table: &'w str, rowid: i64 },
 }
 
 /// When: which states of the database a command looks at.

@@ -1,0 +1,14 @@
+//! What a tree holds under one rowid: the rows with that rowid, and how many faults the tree has.
+#![tactic(auto)]
+
+mod found;
+mod gathering;
+mod listing;
+
+pub use found::Found;
+pub use gathering::history;
+pub use listing::History;
+pub use sx_row::RowFault;
+
+#[cfg(test)]
+mod tests;

@@ -1,0 +1,14 @@
+//! The text of `history`: what a moment holds under a rowid, row by row, or why there are no rows.
+#![tactic(auto)]
+
+mod lack;
+mod moment_lines;
+mod row_lines;
+mod texts;
+
+pub use lack::Lack;
+pub use moment_lines::MomentLines;
+pub use row_lines::RowLines;
+
+#[cfg(test)]
+mod tests;
