@@ -1,0 +1,4 @@
+pub mod Drawing
+pub mod Lists
+pub mod Lengths
+pub mod Summing
