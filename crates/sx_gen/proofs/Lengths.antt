@@ -29,12 +29,12 @@ cells_len letters leaf there =
     flat_len (λ k. row_cell letters (rows_of_leaf * leaf + (19 - k))) 19 0 20
     (λ k below. row_cell_len letters (20 * leaf + (19 - k)) (omega arith))
 
-pointers_len : (size count : ℕ) → length (pointers size count) ≡ count * 2
+pub pointers_len : (size count : ℕ) → length (pointers size count) ≡ count * 2
 unfolding pointers
 pointers_len size count = flat_len (λ i. to_be_bytes w16 (4096 - size * (i + 1))) 2 0 count (λ i below. refl)
 
 -- three pieces
-three_len : (first second third : List ℕ) (a b c : ℕ) → length first ≡ a → length second ≡ b → length third ≡ c → length (first ++ (second ++ third)) ≡ a + (b + c)
+pub three_len : (first second third : List ℕ) (a b c : ℕ) → length first ≡ a → length second ≡ b → length third ≡ c → length (first ++ (second ++ third)) ≡ a + (b + c)
 three_len first second third a b c is_a is_b is_c =
     let back = length-append second third in
     let all = length-append first (second ++ third) in

@@ -4,7 +4,7 @@ use Rattle.std.specs.List.{flat_map, range_with_len}
 use Rattle.sx_wal.specs.Checksum.{Sums, sums_of}
 use Rattle.sx_wal.proofs.ChecksumLemmas.{sums-append}
 use Rattle.sx_gen.specs.Pages.{words_bytes}
-use Rattle.sx_gen.specs.Log.{rows_left, log_start, log_head, commit_page, frame_start, frame_rest, summed_bytes, sums_through, commit_frame}
+use Rattle.sx_gen.specs.Log.{rows_left, log_start, log_head, log_bytes, commit_page, frame_start, frame_rest, summed_bytes, sums_through, commit_frame}
 use Rattle.sx_gen.proofs.Lists.{flat_more}
 use Rattle.sx_gen.proofs.Lengths.{flat_len, leaf_page_len}
 
@@ -73,3 +73,19 @@ frame_put seed letters leaves taken n through was now start page is_start is_pag
     ∙ ap (λ bytes. was ++ (bytes ++ (frame_rest seed through ++ page))) is_start
     ∙ ap (λ bytes. was ++ (frame_start leaves taken n ++ (frame_rest seed through ++ bytes))) is_page
     ∙ ap (λ (s : Sums). was ++ (frame_start leaves taken n ++ (frame_rest seed s ++ commit_page letters taken n))) is
+
+-- a frame has 4120 bytes
+frame_len : (seed : ℕ) (letters : List ℕ) (leaves : ℕ) (taken : List ℕ) (k : ℕ) → length letters ≡ 240 * leaves → slice_index taken k < leaves → length (commit_frame seed letters leaves taken k) ≡ 4120
+unfolding commit_frame commit_page
+frame_len seed letters leaves taken k whole there =
+    let leaf = slice_index taken k in
+    let page = leaf_page_len letters leaf (rows_left (take (k + 1) taken) leaf) (left_few (take (k + 1) taken) leaf) (omega arith) in
+    omega (arith, page)
+
+-- the log has its header and a frame for each commit
+pub log_len : (seed : ℕ) (letters : List ℕ) (leaves : ℕ) (taken : List ℕ) → length letters ≡ 240 * leaves → ((k : ℕ) → k < length taken → slice_index taken k < leaves)
+    → length (log_bytes seed letters leaves taken) ≡ 32 + 4120 * length taken
+unfolding log_bytes log_head log_start
+log_len seed letters leaves taken whole there =
+    let frames = flat_len (commit_frame seed letters leaves taken) 4120 0 (length taken) (λ k below. frame_len seed letters leaves taken k whole (there k (omega arith))) in
+    omega (arith, frames)

@@ -62,6 +62,7 @@ pub fn draw_leaves(
 ) -> Result<Vec<u32>, AllocError>
     requires { 0 < leaves }
     ensures value { IfOk result (λ taken. taken.items ≡ taken_leaves draws.old.state leaves commits) }
+    ensures len { IfOk result (λ taken. length taken.items ≡ commits) }
     ensures below { IfOk result (λ taken. EachIndex taken.items (λ k. slice_index taken.items k < leaves)) }
 {
     let mut taken = Vec::with_capacity(alloc, commits as usize)?;

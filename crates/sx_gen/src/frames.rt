@@ -26,7 +26,8 @@ pub fn make_log(
     requires few { leaves ≤ 400 }
     requires letters { length letters.now ≡ 240 * leaves }
     requires there { EachIndex taken.now (λ k. slice_index taken.now k < leaves) }
-    ensures { IfOk result (λ log. log.items ≡ log_bytes seed letters.now leaves taken.now) }
+    ensures value { IfOk result (λ log. log.items ≡ log_bytes seed letters.now leaves taken.now) }
+    ensures len { IfOk result (λ log. length log.items ≡ 32 + 4120 * length taken.now) }
 {
     let mut log = make_log_start(alloc, seed)?;
     let mut through = sums(true, (0, 0), &log);

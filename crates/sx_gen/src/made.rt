@@ -1,5 +1,5 @@
 //! The two files of a drill.
-ghost use Rattle.std.specs.Prelude.{◌≡◌, ◌≤◌, IfOk};
+ghost use Rattle.std.specs.Prelude.{◌≡◌, ◌+◌, ◌*◌, ◌≤◌, length, IfOk};
 ghost use Rattle.sx_gen.specs.Made.{drilled_database, drilled_log};
 
 use crate::draws::{Draws, draw_leaves, draw_letters};
@@ -27,6 +27,8 @@ pub fn make_case(alloc: Global, seed: u64, leaves: u32, commits: u32) -> Result<
     requires commits { commits ≤ 1000 }
     ensures database { IfOk result (λ made. made.database.items ≡ drilled_database seed leaves) }
     ensures wal { IfOk result (λ made. made.wal.items ≡ drilled_log seed leaves commits) }
+    ensures pages { IfOk result (λ made. length made.database.items ≡ 4096 * (2 + leaves)) }
+    ensures frames { IfOk result (λ made. length made.wal.items ≡ 32 + 4120 * commits) }
 {
     let mut draws = Draws { state: seed };
     let letters = draw_letters(alloc, &mut draws, ROWS_OF_LEAF * leaves as usize)?;

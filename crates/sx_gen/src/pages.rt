@@ -21,7 +21,8 @@ pub fn make_database(alloc: Global, letters: &[u8], leaves: usize) -> Result<Vec
     requires some { 0 < leaves }
     requires few { leaves ≤ 400 }
     requires letters { length letters.now ≡ 240 * leaves }
-    ensures { IfOk result (λ database. database.items ≡ database_bytes letters.now leaves) }
+    ensures value { IfOk result (λ database. database.items ≡ database_bytes letters.now leaves) }
+    ensures len { IfOk result (λ database. length database.items ≡ 4096 * (2 + leaves)) }
 {
     let mut database = Vec::with_capacity(alloc, PAGE_SIZE * (2 + leaves))?;
     put_first_page(&mut database, (2 + leaves) as u32)?;

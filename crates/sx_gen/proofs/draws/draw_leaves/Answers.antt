@@ -1,5 +1,6 @@
-use Rattle.std.proofs.Common.{◌≡◌, ◌∙◌, ap, arith, map}
+use Rattle.std.proofs.Common.{◌≡◌, ◌∙◌, ap, arith, map, length}
 use Rattle.std.specs.List.{range_with_len}
+use Rattle.std.proofs.lemmas.List.FromFn.{length-map-range_with_len}
 use Rattle.sx_gen.specs.Draws.{taken_leaf, taken_leaves}
 use Rattle.sx_gen.proofs.Drawing.{state_more, leaves_more, leaves_below}
 use Rattle.sx_gen.proofs.draws.draw_leaves.Goals as goal
@@ -18,3 +19,8 @@ returns-clause-value c =
 
 pub returns-clause-below : goal.returns-clause-below
 returns-clause-below c = leaves_below _ c.args.leaves c.loop-k._k _ c.requires c.loop-k.invariant.so_far
+
+pub returns-clause-len : goal.returns-clause-len
+returns-clause-len c =
+    let end : c.loop-k._k ≡ c.args.commits = omega (arith, c.loop-k.auto._k-end) in
+    ap length c.loop-k.invariant.so_far ∙ length-map-range_with_len (taken_leaf c.args.draws.now.state c.args.leaves) 0 c.loop-k._k ∙ end

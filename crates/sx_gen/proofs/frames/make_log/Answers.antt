@@ -1,8 +1,9 @@
-use Rattle.std.proofs.Common.{[], ◌∷◌, ◌++◌, ◌∙◌, ap, sym, arith}
+use Rattle.std.proofs.Common.{◌≡◌, length, [], ◌∷◌, ◌++◌, ◌∙◌, ap, sym, arith}
 use Rattle.sx_gen.specs.Pages.{words_bytes}
-use Rattle.sx_gen.specs.Log.{log_head, commit_frame}
+use Rattle.std.specs.List.{flat_map, range_with_len}
+use Rattle.sx_gen.specs.Log.{log_head, log_bytes, commit_frame}
 use Rattle.sx_gen.proofs.Lists.{piece_more}
-use Rattle.sx_gen.proofs.Summing.{sums_first, head_first, sums_more, frame_put}
+use Rattle.sx_gen.proofs.Summing.{sums_first, head_first, sums_more, frame_put, log_len}
 use Rattle.sx_gen.proofs.frames.make_log.Goals as goal
 
 pub loop-k-init : goal.loop-k-init
@@ -31,3 +32,12 @@ loop-k-preserved c =
           (frame_put seed letters leaves taken c.loop-k.k c.sums-through-in-loop-k.result c.loop-k.log.items c.put_frame.new.log.items c.deref-in-loop-k-3.result.now c.deref-in-loop-k-4.result.now
           (c.deref-in-loop-k-3.ensures.value ∙ c.in_ok-start.ensures.value) (c.deref-in-loop-k-4.ensures.value ∙ c.in_ok-page.ensures.value) through c.in_ok-put_frame.ensures);
     }
+
+pub returns-clause-len : goal.returns-clause-len
+unfolding log_bytes
+returns-clause-len c =
+    let letters = c.args.letters.now in
+    let taken = c.args.taken.now in
+    let end : c.loop-k.k ≡ length taken = omega (arith, c.loop-k.auto.k-end) in
+    ap length (c.loop-k.invariant.so_far ∙ ap (λ n. log_head c.args.seed ++ flat_map (commit_frame c.args.seed letters c.args.leaves taken) (range_with_len 0 n)) end)
+    ∙ log_len c.args.seed letters c.args.leaves taken c.requires.letters c.requires.there
