@@ -1,7 +1,10 @@
 //! What no clause says: lengths, and bytes that an independent script made.
 
-use crate::made::{Made, make_case};
+use crate::made::make_case;
+use std::alloc::{AllocError, Global};
 use std::test::Fail;
+use sx_bytes::can_be_page_size;
+use sx_wal::{WalState, read_wal};
 
 /// The 64-bit FNV-1a hash of bytes.
 fn hash(bytes: &[u8]) -> u64 {
@@ -27,12 +30,23 @@ fn drills_have_the_bytes_of_the_script(rt: HostRuntime) -> Result<(), Fail> {
     Ok(())
 }
 
+/// How many commits are read in a log, none where it isn't good.
+fn commits_read(alloc: Global, wal: &[u8]) -> Result<u32, AllocError> {
+    if !can_be_page_size(4096) || wal.len() >= 4294967296 {
+        return Ok(0);
+    }
+    let log = read_wal(alloc, Some(wal), 4096)?;
+    match log.state() {
+        WalState::Good => Ok(log.commits()),
+        _ => Ok(0),
+    }
+}
+
 #[test]
-fn sizes_reach_their_bounds(rt: HostRuntime) -> Result<(), Fail> {
-    let Made { database, wal } = make_case(rt.alloc(), 7, 400, 1000)?;
-    assert_eq!(rt; database.len(), 1_646_592);
-    assert_eq!(rt; wal.len(), 4_120_032);
-    let bare = make_case(rt.alloc(), 0, 1, 0)?;
-    assert_eq!(rt; bare.wal.len(), 32);
+fn each_commit_of_the_greatest_log_is_read(rt: HostRuntime) -> Result<(), Fail> {
+    let made = make_case(rt.alloc(), u64::MAX, 400, 1000)?;
+    assert_eq!(rt; made.database.len(), 1_646_592);
+    assert_eq!(rt; made.wal.len(), 4_120_032);
+    assert_eq!(rt; commits_read(rt.alloc(), &made.wal)?, 1000);
     Ok(())
 }
