@@ -1,0 +1,4 @@
+pub mod Draws
+pub mod Pages
+pub mod Log
+pub mod Made
