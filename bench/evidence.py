@@ -103,6 +103,16 @@ def older_runs(path, runs, length, page_size=PAGE):
                 first, second = over_page.after(*summed(front, first, second))
 
 
+def filled(path, pages, content, page_size=PAGE):
+    """A database that says it has one page, and behind that so many pages which nothing uses: pieces of this content, each
+    from another place of it on."""
+    with open(path, "wb") as file:
+        file.write(header(page_size, 1) + leaf(page_size, 1)[100:])
+        for page in range(pages):
+            at = page * 7919 % (len(content) - page_size)
+            file.write(content[at : at + page_size])
+
+
 def varint(number):
     """A number's spelling of one to five bytes."""
     spelled = [number & 127]

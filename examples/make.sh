@@ -1,5 +1,5 @@
 #!/bin/sh
-# Makes the six small cases of this folder anew, with the stock command line of SQLite (3.40 or later):
+# Makes the seven small cases of this folder anew, with the stock command line of SQLite (3.40 or later):
 #
 #     sh make.sh FOLDER
 #
@@ -13,7 +13,7 @@ if ! command -v sqlite3 >/dev/null; then
     exit 1
 fi
 mkdir -p "$folder"
-for case in chat restarted checkpointed interrupted stock stations; do
+for case in chat restarted checkpointed interrupted stock stations removed; do
     rm -f "$folder/$case".db*
 done
 
@@ -120,4 +120,16 @@ PRAGMA encoding = 'UTF-16le';
 PRAGMA page_size = 512;
 CREATE TABLE station(id INTEGER PRIMARY KEY, name TEXT);
 INSERT INTO station VALUES (1, 'Zürich HB'), (2, '東京'), (3, CAST(x'00d84100' AS TEXT));
+SQL
+
+# A notebook without a log, whose deleted bytes aren't overwritten: a note was deleted, and the table of plans dropped.
+session removed.db <<'SQL'
+PRAGMA page_size = 512;
+PRAGMA secure_delete = OFF;
+CREATE TABLE note(id INTEGER PRIMARY KEY, who TEXT, what TEXT);
+CREATE TABLE plan(id INTEGER PRIMARY KEY, day TEXT, what TEXT);
+INSERT INTO note VALUES (1, 'Ada', 'Bring the ladder.'), (2, 'Ben', 'The gate is open until nine.'), (3, 'Cleo', 'Safe: 31-07-22.'), (4, 'Ada', 'Thanks.');
+INSERT INTO plan VALUES (1, 'Monday', 'Call the bank.'), (2, 'Tuesday', 'Move the boxes.');
+DELETE FROM note WHERE id = 3;
+DROP TABLE plan;
 SQL
