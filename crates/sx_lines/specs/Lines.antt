@@ -1,5 +1,5 @@
 -- Texts: lists of lines, and their bytes.
-use Rattle.std.specs.Prelude.{◌≡◌, ℕ, ◌≤◌, Bool, true, false, List, [], ◌∷◌, ◌++◌, length, take, Option}
+use Rattle.std.specs.Prelude.{◌≡◌, ℕ, ◌<◌, ◌≤◌, Bool, true, false, List, [], ◌∷◌, ◌++◌, length, take, Option}
 use Rattle.std.specs.List.{flat_map}
 use Rattle.std.specs.Io.KnownBytes.{Appends}
 
@@ -19,3 +19,8 @@ AppendsSome old new text = (n : ℕ) × (n ≤ length text) × Appends old new (
 abbrev pub IsNextLine : List (List ℕ) → List (List ℕ) → List ℕ → Bool → Type 0
 IsNextLine old new line true = (first : List ℕ) × (old ≡ first ∷ new) × (line ≡ ended first)
 IsNextLine old new line false = old ≡ []
+
+-- the next lines were put into a piece, with their ends: some of them where more may come, else all that were left
+abbrev pub IsNextPiece : List (List ℕ) → List (List ℕ) → List ℕ → Bool → Type 0
+IsNextPiece old new piece true = (text_of old ≡ piece ++ text_of new) × (length new < length old)
+IsNextPiece old new piece false = text_of old ≡ piece

@@ -1,8 +1,8 @@
-//! A text, written line by line.
+//! A text, made line by line and written in pieces.
 ghost use Rattle.std.specs.Prelude.{◌≡◌, ◌≤◌, ℕ, List, IfOk, IfErr, IsErrOf, OnOk, OnErr, string_bytes};
 ghost use Rattle.std.specs.Io.KnownBytes.{Appends};
 ghost use Rattle.sx_base.specs.Causes.{Rose};
-ghost use Rattle.sx_lines.specs.Lines.{IsNextLine, AppendsSome, text_of};
+ghost use Rattle.sx_lines.specs.Lines.{IsNextLine, IsNextPiece, AppendsSome, text_of};
 ghost use Rattle.sx_lines.specs.declared.writing.Unwritten.TheVariants.{Memory};
 
 use std::alloc::{AllocError, AllocFailed, Global};
@@ -35,7 +35,11 @@ pub trait Lines {
         ensures { IfOk result (IsNextLine (lines self.old) (lines self.new) (string_bytes line.new)) };
 }
 
-/// Writes the lines, each in one piece once it is ready, in one buffer that is used again.
+// How many bytes of lines are gathered before they are written: a write of its own for each line costs about as much as
+// making it does.
+const GATHERED: usize = 32768;
+
+/// Writes the lines, gathered into pieces of some 32 KiB, in two buffers that are used again.
 ///
 /// `WriteFault` comes only where the sink failed, and `Memory` where a line couldn't be made; then a front of the text
 /// was written. The cost is that of making the lines and of writing them.
@@ -50,10 +54,30 @@ pub fn write_lines<L: Lines, W: Sink>(
     ensures cause { IsErrOf result Unwritten.WriteFault → Rose (W.faults out.old) (W.faults out.new) }
 {
     let mut line = String::new(alloc);
-    while lines.next_line(&mut line)? {
-        write_piece(out, line.as_bytes())?;
+    let mut piece = String::new(alloc);
+    while next_piece(lines, &mut line, &mut piece)? {
+        write_piece(out, piece.as_bytes())?;
     }
-    Ok(())
+    write_piece(out, piece.as_bytes())
+}
+
+/// Puts the next lines with their ends into `piece`, in place of what that held, until it is long enough to be written:
+/// true where more may come, false where these are all that were left. Each line is made in `line`.
+fn next_piece<L: Lines>(
+    lines: &mut L,
+    line: &mut String,
+    piece: &mut String,
+) -> Result<bool, AllocError>
+    ensures { IfOk result (IsNextPiece (L.lines lines.old) (L.lines lines.new) (string_bytes piece.new)) }
+{
+    piece.clear();
+    while piece.len() < GATHERED {
+        if !lines.next_line(line)? {
+            return Ok(false);
+        }
+        piece.push_str(line.as_str())?;
+    }
+    Ok(true)
 }
 
 /// Writes one piece of a text. `WriteFault` comes only where the sink failed; then a front of it was written. Memory is
