@@ -251,6 +251,16 @@ def codec_of(encoding: str) -> str:
     return encoding.replace("16", "16-")
 
 
+def encoding_of(path: str) -> str:
+    """The encoding of a database's texts, by its header; that of most where there is none."""
+    try:
+        with open(path, "rb") as file:
+            head = file.read(60)
+    except OSError:
+        head = b""
+    return {b"\0\0\0\2": "utf-16le", b"\0\0\0\3": "utf-16be"}.get(head[56:60], "utf-8")
+
+
 def bytes_of_utf16(inner: str, encoding: str) -> bytes:
     """The bytes of a text of a database in UTF-16: the escape of a byte can stand at its end alone."""
     odd = ODD_BYTE.search(inner)
