@@ -119,7 +119,7 @@ class Command:
 
 NUMBER = "([0-9]+)"
 MOMENT = "(?P<moment>journal|[0-9]+)"
-ROWID = "(-|-?[0-9]{1,19})"
+ROWID = "(-?[0-9]{1,19}|-)"
 TEXT = "'[^']*'"
 FAULT = (
     "fault (?:absent|doubleclaim|badnode|badarray|otherkind|badcell|shortchain|headersize|unusedtype|bodylength)"
@@ -362,7 +362,7 @@ class Reader:
         self.number = 0
         self.rows = 0
         self.faults = 0
-        self.counted = 0
+        self.counted = (0, 0)
         self.ended = False
         self.last_row: Optional[Row] = None
         self.committed = 0
@@ -469,8 +469,8 @@ class Reader:
 
     def check_count(self, command: Command, line: str, parts: Dict[str, Optional[str]]) -> None:
         """The line says how many rows, and in `show` how many faults, came before it."""
-        rows = self.rows - self.counted
-        self.counted = self.rows
+        rows = self.rows - self.counted[0]
+        self.counted = (self.rows, self.faults)
         if command.has_values and int(parts.get("rows") or 0) != rows:
             raise BadLine(self.number, line, f"counts other rows than the {rows} before it")
         if command.name == "show" and int(parts["faults"] or 0) != self.faults:
@@ -486,7 +486,7 @@ class Reader:
             last = self.last_row[1][:2] if self.last_row else None
             whole = last is not None and (last[1] == str(self.committed - 1) if self.committed else last == ("0", ""))
         else:
-            whole = self.ended if command.closing else self.rows == self.counted
+            whole = self.ended if command.closing else self.counted == (self.rows, self.faults)
         if not whole:
             raise CutText(f"the text is cut off behind line {self.number}: the last line of {command.name} isn't there")
 
