@@ -256,6 +256,9 @@ class Pages(unittest.TestCase):
         self.assertTrue(faults)
         self.assertEqual(set(), set(faults) - set(read.of("bdi")))
         self.assertTrue([told for tag, told in read.tags if tag == "rect" and told["class"] == "fault"])
+        read = Read(self.page_of(EXTRAS.parent / "crates/sx_cases/data/page_1_of_zeros.db"))
+        self.assertEqual(2, read.of("title").count("page 2: badhead") + read.of("title").count("page 1: badhead"))
+        self.assertIn("the program printed 'refused: page 1 is unreadable at 1'; status 6", read.of("p"))
 
     def test_the_same_evidence_gives_the_same_page(self) -> None:
         case = EXAMPLES / "chat.db"
