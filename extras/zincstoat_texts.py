@@ -79,6 +79,11 @@ def original(text: str) -> str:
     return text.replace(BACKSLASH, "\\\\").replace(APOSTROPHE, "\\'")
 
 
+def marked(text: str) -> str:
+    """A printed text with the escapes of a backslash and of an apostrophe as one character each."""
+    return text.replace("\\\\", BACKSLASH).replace("\\'", APOSTROPHE)
+
+
 def shown(line: str) -> str:
     """A line for a message: what is no printable ASCII is escaped, and what is long is cut."""
     whole = original(line)
@@ -117,7 +122,7 @@ class Command:
     back: str = ""
 
 
-NUMBER = "([0-9]+)"
+NUMBER = "([0-9]{1,18})"
 MOMENT = "(?P<moment>journal|[0-9]+)"
 ROWID = "(-?[0-9]{1,19}|-)"
 TEXT = "'[^']*'"
@@ -290,6 +295,14 @@ def blob_of(printed: str) -> bytes:
         raise BadValue("has a blob of half a byte") from None
 
 
+def integer_of(printed: str) -> int:
+    """The integer that is printed."""
+    number = int(printed)
+    if not -(2**63) <= number < 2**63:
+        raise BadValue("has an integer of more than 64 bits")
+    return number
+
+
 def real_of(printed: str) -> float:
     """The number whose 8 bytes are printed."""
     return struct.unpack(">d", bytes.fromhex(printed[5:]))[0]
@@ -299,10 +312,7 @@ def decoded(kind: str, printed: str, encoding: str) -> Tuple[str, Value]:
     """What a printed value is, and its kind: `T` is a text whose bytes are no well-formed one, and comes as these bytes;
     `R` a real that is no finite number, and comes as it is printed. A value that isn't there is None."""
     if kind == "i":
-        number = int(printed)
-        if not -(2**63) <= number < 2**63:
-            raise BadValue("has an integer of more than 64 bits")
-        return kind, number
+        return kind, integer_of(printed)
     if kind == "t":
         text = text_of(printed[1:-1], encoding)
         return ("t" if isinstance(text, str) else "T"), text
@@ -319,11 +329,13 @@ def names_of(line: str) -> Optional[List[str]]:
     NUL, stays as it is printed."""
     if line == "columns unknown":
         return None
-    names = []
-    for printed in VALUES.findall(line, len("columns")):
-        text = text_of(printed[1:-1], "utf-8")
-        names.append(text if isinstance(text, str) and "\0" not in text else original(printed[1:-1]))
-    return names
+    return [name_of(printed[1:-1]) for printed in VALUES.findall(marked(line), len("columns"))]
+
+
+def name_of(inner: str) -> str:
+    """A column's name by what is printed between its marks."""
+    text = text_of(inner, "utf-8")
+    return text if isinstance(text, str) and "\0" not in text else original(inner)
 
 
 # ---- texts
@@ -392,7 +404,7 @@ class Reader:
             for number, one in enumerate(text.split("\n"), self.number + 1):
                 if CONTROL.search(one):
                     raise BadLine(number, one.replace("\0", "\\0").replace("\1", "\\1"), "has a control character")
-        lines = text.replace("\\\\", BACKSLASH).replace("\\'", APOSTROPHE).split("\n")
+        lines = marked(text).split("\n")
         lines.pop()
         return lines
 
@@ -455,6 +467,8 @@ class Reader:
         kind, found = kind_of(command, line)
         if found is None:
             raise BadLine(self.number, line, f"is no line of {command.name}")
+        if kind == "columns":
+            self.check_names(original(line))
         wanted = command.opening[self.number - 1] if self.number <= len(command.opening) else None
         if kind != wanted and (wanted or kind in command.opening):
             raise BadLine(self.number, line, "can't stand there")
@@ -466,6 +480,13 @@ class Reader:
             self.ended = command.closing == kind
         page, cell = parts.get("page"), parts.get("cell")
         return Aside(self.number, kind, original(line), parts.get("moment"), int(page) if page else None, int(cell) if cell else None)
+
+    def check_names(self, line: str) -> None:
+        """The names of columns can be read."""
+        try:
+            names_of(line)
+        except BadValue as bad:
+            raise BadLine(self.number, line, str(bad)) from None
 
     def check_count(self, command: Command, line: str, parts: Dict[str, Optional[str]]) -> None:
         """The line says how many rows, and in `show` how many faults, came before it."""

@@ -6,6 +6,7 @@ from __future__ import annotations
 import base64
 import hashlib
 import re
+import shlex
 import shutil
 import sqlite3
 import struct
@@ -65,6 +66,8 @@ class Read(HTMLParser):
         self.tags: List[Tuple[str, Dict[str, Optional[str]]]] = []
         self.open: List[str] = []
         self.texts: List[Tuple[str, str]] = []
+        self.commands: List[str] = []
+        self.heads: List[str] = []
         self.feed(page)
         self.close()
         if self.open:
@@ -75,6 +78,8 @@ class Read(HTMLParser):
         if tag not in VOID:
             self.open.append(tag)
             self.texts.append((tag, ""))
+        if tag == "code":
+            self.commands.append("")
 
     def handle_startendtag(self, tag: str, attrs: List[Tuple[str, Optional[str]]]) -> None:
         self.tags.append((tag, dict(attrs)))
@@ -86,6 +91,10 @@ class Read(HTMLParser):
     def handle_data(self, data: str) -> None:
         if self.open:
             self.texts.append((self.open[-1], data))
+        if "code" in self.open:
+            self.commands[-1] += data
+        if "th" in self.open or "h3" in self.open:
+            self.heads.append(data)
 
     def of(self, tag: str) -> List[str]:
         """The texts that stand right within these tags."""
@@ -125,7 +134,7 @@ class Pages(unittest.TestCase):
         for name in ("chat", "checkpointed", "removed", "stock", "interrupted", "stations"):
             case = EXAMPLES / f"{name}.db"
             read = Read(self.page_of(case, "--characters", "10000"))
-            codes = read.of("code")
+            codes = read.commands
             texts = set(read.of("bdi"))
             moments = [line.split(" ")[0] for line in printed_by(case, "timeline")[3:]]
             commands = [f"zincstoat {case} {words}" for words in ("timeline", *(f"map at={moment}" for moment in moments), "carve at=all", "generations")]
@@ -204,6 +213,8 @@ class Pages(unittest.TestCase):
             self.assertEqual(4, len(texts_in(printed[1:])))
             self.assertEqual(set(), set(texts_in(printed[1:])) - texts)
             self.assertIn(name, texts)
+            self.assertEqual(2, sum(head == name for head in read.heads), name)
+            self.assertIn(f"zincstoat {shlex.quote(str(case))} show {shlex.quote(f'table={name}')} at=0", read.commands)
         self.assertIn("'\\xed\\xa0\\x80\\xff\\x00<b>'", texts)
         self.assertIn(f"x'{'00' * 199} … cut: {10003 - 400} characters more (--characters)", texts)
         self.assertIn("real:7ff0000000000000", texts)

@@ -328,6 +328,26 @@ class Lines(WithFolder):
         self.assertEqual([(3, 2, "fault badcell page 3 cell 2"), (9, None, "fault absent page 9")], written.execute("SELECT page, cell, text FROM aside WHERE kind = 'fault'").fetchall())
         written.close()
 
+    def test_names_with_marks(self) -> None:
+        """As SQLite has them, in each form."""
+        names = ["it's", 'a "b"', "back\\slash", "\\x41", "a,b", "two\nlines", "Zürich", "", "; DROP TABLE rows", "'", "\\'"]
+        case = self.folder / "names.db"
+        connection = sqlite3.connect(case)
+        columns = ", ".join('"' + name.replace('"', '""') + '"' for name in names)
+        connection.execute(f"CREATE TABLE t({columns})")
+        connection.execute(f"INSERT INTO t VALUES ({', '.join('?' * len(names))})", names)
+        connection.commit()
+        connection.close()
+        text = printed_by(str(case), "show", "table=t")
+        self.assertEqual(names, self.objects(text)[0]["names"])
+        (row,) = rows_of_csv(self.written("csv", [], text).read_bytes())
+        self.assertEqual(dict(zip(names, names)), {name: row[name] for name in names})
+        written = sqlite3.connect(self.written("sqlite", [], text))
+        written.row_factory = sqlite3.Row
+        (found,) = written.execute("SELECT * FROM rows").fetchall()
+        self.assertEqual(dict(zip(names, names)), {name: found[name] for name in names})
+        written.close()
+
     def test_faults_of_csv_go_to_standard_error(self) -> None:
         done = hand_on(["--to", "csv", "-"], SHOW)
         self.assertEqual(0, done.returncode)
@@ -405,6 +425,12 @@ class Refusals(WithFolder):
         done = hand_on(["--to", "sqlite", str(self.folder / "a")], b"columns 'a'\nrow 1 9223372036854775808\nrows 1 faults 0\n")
         self.assertEqual(BAD_TEXT, done.returncode)
         self.assertIn(b"line 2 has an integer of more than 64 bits", done.stderr)
+
+    def test_bad_names_and_rowids(self) -> None:
+        self.refused(b"columns 'a' '\\q'\nrows 0 faults 0\n", 1, "has an escape")
+        self.refused(b"columns 'a' 'b\nrows 0 faults 0\n", 1)
+        status, told = hand_on_here(["--to", "sqlite", str(self.folder / "a")], b"columns 'a'\nrow 9999999999999999999 1\nrows 1 faults 0\n")
+        self.assertEqual((BAD_TEXT, True), (status, "line 2 has an integer of more than 64 bits" in told), told)
 
     def test_counts_that_are_wrong(self) -> None:
         self.refused(SHOW.replace(b"rows 2", b"rows 3"), 6, "counts other rows")
