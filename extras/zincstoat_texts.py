@@ -453,12 +453,13 @@ class Reader:
     def row_of(self, command: Command, line: str) -> Optional[Tuple[str, ...]]:
         """The fields and values of a line that is a row, found one by one."""
         front = re.compile(command.front).match(line)
-        if front is None:
+        back = re.compile(rf"(?:{command.back})\Z").search(line)
+        if front is None or back is None or front.end() > back.start():
             return None
-        values = VALUES.findall(line, front.end()) if command.has_values else []
-        end = front.end() + sum(map(len, values)) + len(values)
-        back = re.compile(command.back).fullmatch(line, end)
-        return None if back is None else (*front.groups(""), *values, *back.groups(""))
+        values = VALUES.findall(line, front.end(), back.start()) if command.has_values else []
+        if front.end() + sum(map(len, values)) + len(values) != back.start():
+            return None
+        return (*front.groups(""), *values, *back.groups(""))
 
     def aside_of(self, command: Command, line: str) -> Aside:
         """The line at `self.number`, which is no row."""

@@ -85,6 +85,7 @@ def loaded(path: Path) -> Any:
 
 
 rows_module = loaded(ROWS)
+texts_module = rows_module.texts
 
 
 def hand_on_here(words: List[str], text: bytes) -> Tuple[int, str]:
@@ -270,7 +271,7 @@ fault absent page 9
 rows 2 faults 2
 """
 CARVE = b"""database 342 85 lost5 page 1 file rowid ? ? 'plan' NULL
-wal 1482 28 full page 3 committed rowid -2 1 '...' ... overflow 17
+wal 1482 28 full page 3 committed rowid -2 1 '...' 7 ... overflow 17
 journal 20 9 types3 page 4294967295 good rowid ? 'overflow 5'
 candidates 3
 """
@@ -362,14 +363,14 @@ class Lines(WithFolder):
     def test_carve(self) -> None:
         lost, part, word = self.objects(CARVE)[:3]
         self.assertEqual([{"mark": "?"}, "plan", None], lost["values"])
-        self.assertEqual([1, "...", {"mark": "..."}], part["values"])
+        self.assertEqual([1, "...", 7, {"mark": "..."}], part["values"])
         self.assertEqual(["wal", 1482, 28, "full", 3, "committed", -2, 17], [part[key] for key in ("part", "offset", "length", "form", "page", "class", "rowid", "overflow")])
         self.assertEqual((None, ["overflow 5"], None), (word["rowid"], word["values"], word["overflow"]))
         rows = rows_of_csv(self.written("csv", [], CARVE).read_bytes())
-        self.assertEqual(["ltn", "itp", "t"], [row["types"] for row in rows])
+        self.assertEqual(["ltn", "itip", "t"], [row["types"] for row in rows])
         self.assertEqual(["", "17", ""], [row["overflow"] for row in rows])
         written = sqlite3.connect(self.written("sqlite", [], CARVE))
-        self.assertEqual([("?", None), ("full", -2)][1], written.execute("SELECT form, rowid FROM candidates WHERE part = 'wal'").fetchone())
+        self.assertEqual(("full", -2), written.execute("SELECT form, rowid FROM candidates WHERE part = 'wal'").fetchone())
         written.close()
 
     def test_history(self) -> None:
@@ -392,6 +393,52 @@ class Lines(WithFolder):
                 text = printed_by(str(EXAMPLES / f"{name}.db"), *words)
                 lines = self.objects(text, "--from", words[0])
                 self.assertEqual(list(range(1, text.count(b"\n") + 1)), [line["line"] for line in lines])
+
+
+    def take(self, text: bytes, encoding: str) -> bool:
+        """Whether a text is taken, with all its values."""
+        reader = texts_module.Reader(io.BytesIO(text))
+        try:
+            for item in reader.items():
+                if isinstance(item, list):
+                    fields = len(reader.command.fields)
+                    for _, parts, kinds, _ in item:
+                        for kind, printed in zip(kinds, parts[fields:]):
+                            texts_module.decoded(kind, printed, encoding)
+        except texts_module.TextError:
+            return False
+        return True
+
+    def test_the_worked_texts(self) -> None:
+        """Each text of the worked cases is taken, and each refusal isn't."""
+        taken = 0
+        for case in (EXTRAS.parent / "crates/sx_cases/data/cases").read_text(encoding="utf-8").split("\ncase ")[1:]:
+            lines = [line.partition(" ") for line in case.split("\n")]
+            words = next((rest for key, _, rest in lines if key == "words"), "").split(" ")
+            status = next(rest for key, _, rest in lines if key == "status")
+            text = "".join(rest + "\n" for key, _, rest in lines if key == ">")
+            if len(words) > 1 and words[1] in texts_module.COMMANDS:
+                taken += status == "0"
+                encoding = "utf-16le" if "\\u" in text else "utf-8"
+                self.assertEqual(status == "0", self.take(text.encode(), encoding), case)
+        self.assertGreater(taken, 100)
+
+    def test_damaged_evidence(self) -> None:
+        """Whatever the bytes of the evidence are, what is printed of them is taken."""
+        drawn = random.Random(29)
+        for copy in range(40):
+            name = drawn.choice(("chat", "checkpointed", "removed", "stock", "interrupted"))
+            case = self.folder / f"{copy}.db"
+            for ending in ("", "-wal", "-journal"):
+                example = EXAMPLES / f"{name}.db{ending}"
+                if example.exists():
+                    stored = bytearray(example.read_bytes())
+                    for _ in range(drawn.choice((1, 5, 40))):
+                        stored[drawn.randrange(100, len(stored))] = drawn.choice((0, 255, drawn.randrange(256)))
+                    Path(f"{case}{ending}").write_bytes(stored)
+            for words in (["map"], ["carve", "at=all"], ["show", "table=sqlite_schema"]):
+                done = subprocess.run([str(PROGRAM), str(case), *words], capture_output=True, timeout=60)
+                self.assertEqual(done.returncode == 0, self.take(done.stdout, "utf-8"), (name, copy, words, done.stdout[-300:]))
 
 
 class Refusals(WithFolder):
