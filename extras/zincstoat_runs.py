@@ -31,6 +31,7 @@ class Parser(argparse.ArgumentParser):
     """A parser whose refusals have a status of their own: 2 is one of the program's."""
 
     def error(self, message: str) -> NoReturn:
+        """Refuses the words."""
         self.print_usage(sys.stderr)
         self.exit(USAGE, f"{self.prog}: {message}\n")
 

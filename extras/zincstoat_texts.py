@@ -1,7 +1,7 @@
 """The texts that zincstoat prints, read line by line: rows, and the lines that are no rows.
 
 Both companions stand on this file. It reads `show`, `history`, `carve`, `timeline` and `map` from a stream, a chunk at a
-time, and refuses each line that the program doesn't print. Nothing of evidence is read here.
+time, and refuses each line that the program doesn't print. Of evidence nothing is read here but the encoding in a header.
 
 A row is handed on as it was printed: its place in the text, its fields, and its values with their marks. What a value is
 tells `decoded`, by the kind that stands for it in the row's `kinds`, a letter a value:
@@ -138,6 +138,7 @@ PLAIN_LABELS = (
 
 
 def patterns(**sources: str) -> Dict[str, Pattern[str]]:
+    """The kinds of lines that are no rows, with what such a line is."""
     return {kind: re.compile(source) for kind, source in sources.items()}
 
 
