@@ -8,6 +8,7 @@ import contextlib
 import csv
 import io
 import json
+import math
 import os
 import pty
 import random
@@ -135,6 +136,7 @@ def value_of_csv(kind: str, cell: str, codec: str, base64_blobs: bool = False) -
         return "text", cell.encode(codec) if kind == "t" else unhexed(cell)
     if kind == "i":
         return "integer", int(cell)
+    assert kind == "R" or math.isfinite(float(cell)), cell
     return "real", float(cell) if kind == "r" else real_of(cell[len("real:") :])
 
 
