@@ -57,6 +57,11 @@ def texts_in(lines: List[str]) -> List[str]:
     return re.findall(r"(?<= )'(?:[^'\\]|\\.)*'", "\n".join(lines))
 
 
+def shown(text: str) -> str:
+    """A text as the page has it: what isn't seen stands by its number."""
+    return re.sub("[\u2028\u202e]", lambda found: f"U+{ord(found[0]):04X}", text)
+
+
 class Read(HTMLParser):
     """A page taken apart: its tags with what they say, and its texts by the tag that holds them. Raises where a tag that was
     opened isn't closed in its place."""
@@ -65,9 +70,8 @@ class Read(HTMLParser):
         super().__init__(convert_charrefs=True)
         self.tags: List[Tuple[str, Dict[str, Optional[str]]]] = []
         self.open: List[str] = []
-        self.texts: List[Tuple[str, str]] = []
-        self.commands: List[str] = []
-        self.heads: List[str] = []
+        self.whole: List[Tuple[str, str]] = []
+        self.within: List[int] = []
         self.feed(page)
         self.close()
         if self.open:
@@ -77,9 +81,8 @@ class Read(HTMLParser):
         self.tags.append((tag, dict(attrs)))
         if tag not in VOID:
             self.open.append(tag)
-            self.texts.append((tag, ""))
-        if tag == "code":
-            self.commands.append("")
+            self.within.append(len(self.whole))
+            self.whole.append((tag, ""))
 
     def handle_startendtag(self, tag: str, attrs: List[Tuple[str, Optional[str]]]) -> None:
         self.tags.append((tag, dict(attrs)))
@@ -87,18 +90,16 @@ class Read(HTMLParser):
     def handle_endtag(self, tag: str) -> None:
         if not self.open or self.open.pop() != tag:
             raise AssertionError(f"closed without an opening: {tag}")
+        self.within.pop()
 
     def handle_data(self, data: str) -> None:
-        if self.open:
-            self.texts.append((self.open[-1], data))
-        if "code" in self.open:
-            self.commands[-1] += data
-        if "th" in self.open or "h3" in self.open:
-            self.heads.append(data)
+        for place in self.within[2:]:
+            tag, text = self.whole[place]
+            self.whole[place] = tag, text + data
 
-    def of(self, tag: str) -> List[str]:
-        """The texts that stand right within these tags."""
-        return [text for name, text in self.texts if name == tag and text]
+    def of(self, *tags: str) -> List[str]:
+        """The texts within these tags, with those of the tags in them."""
+        return [text for tag, text in self.whole if tag in tags and text]
 
 
 class Pages(unittest.TestCase):
@@ -134,7 +135,7 @@ class Pages(unittest.TestCase):
         for name in ("chat", "checkpointed", "removed", "stock", "interrupted", "stations"):
             case = EXAMPLES / f"{name}.db"
             read = Read(self.page_of(case, "--characters", "10000"))
-            codes = read.commands
+            codes = read.of("code")
             texts = set(read.of("bdi"))
             moments = [line.split(" ")[0] for line in printed_by(case, "timeline")[3:]]
             commands = [f"zincstoat {case} {words}" for words in ("timeline", *(f"map at={moment}" for moment in moments), "carve at=all", "generations")]
@@ -211,10 +212,9 @@ class Pages(unittest.TestCase):
         for name in hostile:
             printed = printed_by(case, "show", f"table={name}")
             self.assertEqual(4, len(texts_in(printed[1:])))
-            self.assertEqual(set(), set(texts_in(printed[1:])) - texts)
-            self.assertIn(name, texts)
-            self.assertEqual(2, sum(head == name for head in read.heads), name)
-            self.assertIn(f"zincstoat {shlex.quote(str(case))} show {shlex.quote(f'table={name}')} at=0", read.commands)
+            self.assertEqual(set(), set(map(shown, texts_in(printed[1:]))) - texts)
+            self.assertEqual(2, read.of("th", "h3").count(shown(name)), name)
+            self.assertIn(shown(f"zincstoat {shlex.quote(str(case))} show {shlex.quote(f'table={name}')} at=0"), read.of("code"))
         self.assertIn("'\\xed\\xa0\\x80\\xff\\x00<b>'", texts)
         self.assertIn(f"x'{'00' * 199} … cut: {10003 - 400} characters more (--characters)", texts)
         self.assertIn("real:7ff0000000000000", texts)
