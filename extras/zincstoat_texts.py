@@ -304,9 +304,12 @@ def integer_of(printed: str) -> int:
     return number
 
 
+read_double = struct.Struct(">d").unpack
+
+
 def real_of(printed: str) -> float:
     """The number whose 8 bytes are printed."""
-    return struct.unpack(">d", bytes.fromhex(printed[5:]))[0]
+    return read_double(bytes.fromhex(printed[5:]))[0]
 
 
 def decoded(kind: str, printed: str, encoding: str) -> Tuple[str, Value]:
