@@ -37,14 +37,17 @@ pub data Question : Type 0 where
   Explain : (place : Place) → (at : When) → Question
   Generations : Question
   History : (table : List ℕ) → (rowid : ℤ) → Question
+  Report : Question
 
--- what words can ask for: a question about the evidence of a database's name
+-- what words can ask for: a question about the evidence of a database's name, or a drill, whose evidence is made from a
+-- seed
 pub data Asked : Type 0 where
   Evidence : (db : List ℕ) → (question : Question) → Asked
+  Drill : (seed leaves commits : ℕ) → Asked
 
--- a database's name isn't empty, and isn't the word that is kept for a command without one
+-- a database's name isn't empty
 abbrev pub is_name : List ℕ → Bool
-is_name name = not (bytes_eq name [] || bytes_eq name (codes "drill"))
+is_name name = not (bytes_eq name [])
 
 -- ---- the table of commands
 
@@ -58,7 +61,8 @@ command_named word =
     else (if bytes_eq word (codes "carve") then Some commands.Carve
     else (if bytes_eq word (codes "explain") then Some commands.Explain
     else (if bytes_eq word (codes "generations") then Some commands.Generations
-    else (if bytes_eq word (codes "history") then Some commands.History else None)))))))
+    else (if bytes_eq word (codes "history") then Some commands.History
+    else (if bytes_eq word (codes "report") then Some commands.Report else None))))))))
 
 -- the keys that the words behind a command may set, and which of them they must: one row a command
 abbrev pub keys_of : Command → List Wanted
@@ -70,6 +74,11 @@ keys_of commands.Carve = Allowed At ∷ []
 keys_of commands.Explain = Required keys.Part ∷ Required keys.Byte ∷ Allowed At ∷ []
 keys_of commands.Generations = []
 keys_of commands.History = Required Table ∷ Required keys.Rowid ∷ []
+keys_of commands.Report = []
+
+-- the keys that the words of a drill must set
+abbrev pub drill_keys : List Wanted
+drill_keys = Required keys.Seed ∷ Required keys.Leaves ∷ Required keys.Commits ∷ []
 
 -- ---- words that set a key
 
@@ -80,6 +89,9 @@ key_name Table = codes "table"
 key_name keys.Part = codes "part"
 key_name keys.Byte = codes "byte"
 key_name keys.Rowid = codes "rowid"
+key_name keys.Seed = codes "seed"
+key_name keys.Leaves = codes "leaves"
+key_name keys.Commits = codes "commits"
 key_name At = codes "at"
 
 -- the byte `=`
@@ -152,6 +164,11 @@ part_of (Some text) =
 unfoldable pub offset_of : Option (List ℕ) → Option ℕ
 offset_of None = None
 offset_of (Some text) = number_of 0 18446744073709551615 text
+
+-- a number within these bounds, where a value gives one
+unfoldable pub bounded_of : ℕ → ℕ → Option (List ℕ) → Option ℕ
+bounded_of least most None = None
+bounded_of least most (Some text) = number_of least most text
 
 -- what stands behind a minus sign, where a text begins with one
 abbrev pub after_minus : List ℕ → Option (List ℕ)
@@ -254,6 +271,7 @@ question_of commands.Explain words =
     explain_of (byte_of (part_of (value_of keys.Part words)) (offset_of (value_of keys.Byte words))) (when_of (value_of At words))
 question_of commands.Generations words = Some Generations
 question_of commands.History words = history_of (value_of Table words) (rowid_of (value_of keys.Rowid words))
+question_of commands.Report words = Some Report
 
 -- what a name, a command and the words behind it ask for
 unfoldable pub command_of : List ℕ → Option Command → List (List ℕ) → Option Asked
@@ -261,11 +279,29 @@ command_of db None words = None
 command_of db (Some command) words =
     if is_name db && are_settings (keys_of command) words then option_map (Evidence db) (question_of command words) else None
 
--- what the words ask for: they are a name, a command, and words that set its keys
+-- what a name and the words behind it ask for: a command, and words that set its keys
+unfoldable pub evidence_of : List ℕ → List (List ℕ) → Option Asked
+evidence_of db [] = None
+evidence_of db (command ∷ words) = command_of db (command_named command) words
+
+-- a drill by a seed below 2 ^ 64, 1 to 400 leaves and at most 1000 commits, where all three could be read
+abbrev pub drill_by : Option ℕ → Option ℕ → Option ℕ → Option Asked
+drill_by (Some seed) (Some leaves) (Some commits) = Some (Drill seed leaves commits)
+drill_by (Some seed) (Some leaves) None = None
+drill_by (Some seed) None commits = None
+drill_by None leaves commits = None
+
+-- what words that set the keys of a drill ask for
+unfoldable pub drill_of : List (List ℕ) → Option Asked
+drill_of words =
+    if are_settings drill_keys words then
+        drill_by (bounded_of 0 18446744073709551615 (value_of keys.Seed words)) (bounded_of 1 400 (value_of keys.Leaves words)) (bounded_of 0 1000 (value_of keys.Commits words))
+    else None
+
+-- what the words ask for: where the first is `drill` a drill, else it is the name of a database
 unfoldable pub request_of : List (List ℕ) → Option Asked
 request_of [] = None
-request_of (db ∷ []) = None
-request_of (db ∷ command ∷ words) = command_of db (command_named command) words
+request_of (word ∷ words) = if bytes_eq word (codes "drill") then drill_of words else evidence_of word words
 
 -- ---- requests as they were read
 
@@ -283,10 +319,12 @@ question_by (questions.Carve at) = Carve at
 question_by (questions.Explain place at) = Explain place at
 question_by questions.Generations = Generations
 question_by (questions.History table rowid) = History table.now rowid
+question_by questions.Report = Report
 
 -- what a request asks for, without where its names lie in memory
 abbrev pub asked_by : Request → Asked
 asked_by (requests.Evidence db question) = Evidence db.now (question_by question)
+asked_by (requests.Drill drill) = Drill drill.seed drill.leaves drill.commits
 
 -- what was read: a request, or that the words are outside the grammar
 abbrev pub asked : Result Request Usage → Option Asked

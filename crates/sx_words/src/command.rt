@@ -1,6 +1,6 @@
 //! The table of commands.
 ghost use Rattle.std.specs.Prelude.{◌≡◌};
-ghost use Rattle.sx_words.specs.Words.{command_named, keys_of};
+ghost use Rattle.sx_words.specs.Words.{command_named, drill_keys, keys_of};
 
 use crate::key::{Key, Wanted};
 
@@ -15,6 +15,7 @@ pub enum Command {
     Explain,
     Generations,
     History,
+    Report,
 }
 
 /// The command of a word, where it is one.
@@ -30,6 +31,7 @@ pub fn command_named(word: &str) -> Option<Command>
         "explain" => Some(Command::Explain),
         "generations" => Some(Command::Generations),
         "history" => Some(Command::History),
+        "report" => Some(Command::Report),
         _ => None,
     }
 }
@@ -52,6 +54,18 @@ impl Command {
             ],
             Command::Generations => &[],
             Command::History => &[Wanted::Required(Key::Table), Wanted::Required(Key::Rowid)],
+            Command::Report => &[],
         }
     }
+}
+
+/// The keys that the words of a drill must set.
+pub fn drill_keys() -> &'static [Wanted]
+    ensures { result.now ≡ drill_keys }
+{
+    &[
+        Wanted::Required(Key::Seed),
+        Wanted::Required(Key::Leaves),
+        Wanted::Required(Key::Commits),
+    ]
 }

@@ -17,6 +17,12 @@ pub enum Key {
     Rowid,
     /// The moment of the evidence.
     At,
+    /// The number that a drill begins with.
+    Seed,
+    /// How many leaves a drill's table has.
+    Leaves,
+    /// How many commits a drill's log has.
+    Commits,
 }
 
 impl Key {
@@ -31,6 +37,9 @@ impl Key {
             Key::Byte => "byte",
             Key::Rowid => "rowid",
             Key::At => "at",
+            Key::Seed => "seed",
+            Key::Leaves => "leaves",
+            Key::Commits => "commits",
         }
     }
 }

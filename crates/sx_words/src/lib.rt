@@ -9,7 +9,7 @@ mod request;
 mod settings;
 
 pub use reading::read_words;
-pub use request::{Question, Request, Usage, When, Which};
+pub use request::{Drill, Question, Request, Usage, When, Which};
 
 #[cfg(test)]
 mod tests;

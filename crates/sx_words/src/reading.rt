@@ -1,12 +1,12 @@
 //! The grammar of the words.
-ghost use Rattle.std.specs.Prelude.{◌≡◌, ◌≤◌, ◌^◌, ◌∷◌, []};
+ghost use Rattle.std.specs.Prelude.{◌≡◌, ◌≤◌, ◌^◌, ◌∷◌, [], IfSome};
 ghost use Rattle.std.specs.Option.{option_copied, option_map};
-ghost use Rattle.sx_words.specs.Words.{texts, request_of, command_of, question_of, show_of, map_of, page_of, carve_of, which_of, is_all, one_of, explain_of, byte_of, part_of, offset_of, command_named, page_number_of, rowid_of, signed_of, after_minus, negated, history_of, when_of, asked, question_by, is_name, numbered};
+ghost use Rattle.sx_words.specs.Words.{texts, request_of, evidence_of, drill_of, drill_by, bounded_of, command_of, question_of, show_of, map_of, page_of, carve_of, which_of, is_all, one_of, explain_of, byte_of, part_of, offset_of, command_named, page_number_of, rowid_of, signed_of, after_minus, negated, history_of, when_of, asked, question_by, is_name, numbered};
 
-use crate::command::{Command, command_named};
+use crate::command::{Command, command_named, drill_keys};
 use crate::key::Key;
 use crate::number::number_of;
-use crate::request::{Question, Request, Usage, When, Which};
+use crate::request::{Drill, Question, Request, Usage, When, Which};
 use crate::settings::{are_settings, value_of};
 use sx_base::{Moment, Part, Place};
 
@@ -21,13 +21,16 @@ const LEAST_NEGATED: u64 = 9_223_372_036_854_775_808;
 
 /// Reads the words after the program's name.
 ///
-/// They are `<db> <command>` and words `key=value`, split at their first `=`. `<db>` isn't empty and isn't the word
-/// `drill`, which is kept for a command that reads no file. The commands are `timeline` and `generations`, which have no key;
-/// `show` with its keys `table`, which is required, and `at`; `history` with its keys `table` and `rowid`, which are both
-/// required; `map` with its key `at`; `page` with its keys `no`, from 1 to
-/// 4294967295, which is required, and `at`; `carve` with its key `at`, which can be `all` too; and `explain` with its keys `part`, which is `database`, `wal` or `journal`, and
-/// `byte`, from 0 to 18446744073709551615, which are both required, and `at`. `at` is `journal` or from 0 to 4294967295.
-/// `rowid` is from 0 to 9223372036854775807, or `-` and a number from 1 to 9223372036854775808.
+/// Where the first is `drill`, the words behind it set `seed`, from 0 to 18446744073709551615, `leaves`, from 1 to 400, and
+/// `commits`, from 0 to 1000, which are all required.
+///
+/// Else they are `<db> <command>` and words `key=value`, split at their first `=`. `<db>` isn't empty. The commands are
+/// `timeline`, `generations` and `report`, which have no key; `show` with its keys `table`, which is required, and `at`;
+/// `history` with its keys `table` and `rowid`, which are both required; `map` with its key `at`; `page` with its keys `no`,
+/// from 1 to 4294967295, which is required, and `at`; `carve` with its key `at`, which can be `all` too; and `explain` with
+/// its keys `part`, which is `database`, `wal` or `journal`, and `byte`, from 0 to 18446744073709551615, which are both
+/// required, and `at`. `at` is `journal` or from 0 to 4294967295. `rowid` is from 0 to 9223372036854775807, or `-` and a
+/// number from 1 to 9223372036854775808.
 /// The keys come in any order, each at most once. A number is `0` or decimal digits that don't begin with 0.
 ///
 /// Every other list of words is outside the grammar, and `Usage` comes exactly there. The request borrows its names from
@@ -37,8 +40,77 @@ pub fn read_words<'w>(words: &'w [String]) -> Result<Request<'w>, Usage>
     ensures { asked result ≡ request_of (texts words.now) }
 {
     match words {
-        [db, command, settings @ ..] => read_command(db.as_str(), command.as_str(), settings),
+        [word, rest @ ..] => read_from(word.as_str(), rest),
+        [] => Err(Usage),
+    }
+}
+
+// Reads the first word and those behind it.
+#[tactic(auto, unfolding(crate::specs::Words::request_of))]
+fn read_from<'w>(word: &'w str, words: &'w [String]) -> Result<Request<'w>, Usage>
+    ensures { asked result ≡ request_of (word.now ∷ texts words.now) }
+{
+    if word == "drill" {
+        read_drill(words)
+    } else {
+        read_evidence(word, words)
+    }
+}
+
+// Reads the words of a drill.
+#[tactic(auto, unfolding(crate::specs::Words::drill_of))]
+fn read_drill<'w>(words: &[String]) -> Result<Request<'w>, Usage>
+    ensures { asked result ≡ drill_of (texts words.now) }
+{
+    if !are_settings(drill_keys(), words) {
+        return Err(Usage);
+    }
+    drill(
+        bounded(value_of(Key::Seed, words), 0, u64::MAX),
+        bounded(value_of(Key::Leaves, words), 1, 400),
+        bounded(value_of(Key::Commits, words), 0, 1000),
+    )
+}
+
+// A drill, where all three numbers could be read.
+fn drill<'w>(
+    seed: Option<u64>,
+    leaves: Option<u64>,
+    commits: Option<u64>,
+) -> Result<Request<'w>, Usage>
+    requires least { IfSome leaves (λ number. 1 ≤ number) }
+    requires most { IfSome leaves (λ number. number ≤ 400) }
+    requires few { IfSome commits (λ number. number ≤ 1000) }
+    ensures { asked result ≡ drill_by seed leaves commits }
+{
+    match (seed, leaves, commits) {
+        (Some(seed), Some(leaves), Some(commits)) => Ok(Request::Drill(Drill {
+            seed,
+            leaves: leaves as u32,
+            commits: commits as u32,
+        })),
         _ => Err(Usage),
+    }
+}
+
+// A number within these bounds, where a value gives one.
+#[tactic(auto, unfolding(crate::specs::Words::bounded_of))]
+fn bounded(value: Option<&str>, least: u64, most: u64) -> Option<u64>
+    ensures value { result ≡ bounded_of least most (option_copied value.entry) }
+    ensures above { IfSome result (λ number. least ≤ number) }
+    ensures within { IfSome result (λ number. number ≤ most) }
+{
+    number_of(value?, least, most)
+}
+
+// Reads a name and the words behind it.
+#[tactic(auto, unfolding(crate::specs::Words::evidence_of))]
+fn read_evidence<'w>(db: &'w str, words: &'w [String]) -> Result<Request<'w>, Usage>
+    ensures { asked result ≡ evidence_of db.now (texts words.now) }
+{
+    match words {
+        [command, settings @ ..] => read_command(db, command.as_str(), settings),
+        [] => Err(Usage),
     }
 }
 
@@ -63,7 +135,7 @@ fn read_command<'w>(db: &'w str, command: &str, words: &'w [String]) -> Result<R
 fn is_name(word: &str) -> bool
     ensures { result ≡ is_name word.now }
 {
-    !(word.is_empty() || word == "drill")
+    !word.is_empty()
 }
 
 // The question of a command, with words that set its keys, where their values can be read.
@@ -92,6 +164,7 @@ fn read_question<'w>(command: Command, words: &'w [String]) -> Option<Question<'
             value_of(Key::Table, words),
             rowid(value_of(Key::Rowid, words)),
         ),
+        Command::Report => Some(Question::Report),
     }
 }
 

@@ -1,4 +1,5 @@
 //! What the words ask for.
+ghost use Rattle.std.specs.Prelude.{◌≤◌};
 
 use sx_base::{Moment, Place};
 
@@ -7,6 +8,22 @@ use sx_base::{Moment, Place};
 pub enum Request<'w> {
     /// `<db> ..`: a question about the evidence of a database's name. The names of its companions follow from it.
     Evidence { db: &'w str, question: Question<'w> },
+    /// `drill seed=N leaves=N commits=N`: evidence that is made from a seed, which needs no file.
+    Drill(Drill),
+}
+
+/// How the evidence of a drill is made.
+#[derive(Clone, Copy, Debug, PartialEq, Eq)]
+pub struct Drill {
+    /// The number that its draws begin with.
+    pub seed: u64,
+    /// How many leaves its table has: 1 to 400.
+    pub leaves: u32,
+    /// How many commits its log has: at most 1000.
+    pub commits: u32,
+    ghost least: { 1 ≤ leaves },
+    ghost most: { leaves ≤ 400 },
+    ghost few: { commits ≤ 1000 },
 }
 
 /// A question about the evidence of a database's name.
@@ -28,6 +45,8 @@ pub enum Question<'w> {
     Generations,
     /// `history table=T rowid=N`: what each moment holds under a table's name and a rowid.
     History { table: &'w str, rowid: i64 },
+    /// `report`: the files, their states and totals of each moment, for other programs.
+    Report,
 }
 
 /// When: which states of the database a command looks at.
