@@ -22,7 +22,7 @@ neither either = ⊎_elim (λ one. one) (λ other. other) either
 
 -- ---- over evidence that was opened: lines that were written
 
-answers_written : (part : Part) (lines : List (List ℕ)) (old new : Option (List ℕ)) (r : Result (Unit {0}) Refused) → OnOk r (Appends old new (text_of lines))
+pub answers_written : (part : Part) (lines : List (List ℕ)) (old new : Option (List ℕ)) (r : Result (Unit {0}) Refused) → OnOk r (Appends old new (text_of lines))
     → OnErr r (AppendsSome old new (text_of lines)) → IfErr r (MayMeet Writing) → Answers (answered part (Ok lines)) old new r
 answers_written part lines old new (Ok done) whole front unwritten = (refl, whole)
 answers_written part lines old new (Err WriteFault) whole front unwritten = front
@@ -33,7 +33,7 @@ unwritten_may : (question : Question) (r : Result (Unit {0}) Refused) → IfErr 
 unwritten_may question (Ok done) unwritten = tt
 unwritten_may question (Err refused) unwritten = inr unwritten
 
-written_prints : (part : Part) (old new : Option (List ℕ)) (r : Result (Unit {0}) Refused) → IfErr r (MayMeet Writing) → IfErr r (Prints part old new)
+pub written_prints : (part : Part) (old new : Option (List ℕ)) (r : Result (Unit {0}) Refused) → IfErr r (MayMeet Writing) → IfErr r (Prints part old new)
 written_prints part old new (Ok done) unwritten = tt
 written_prints part old new (Err WriteFault) unwritten = tt
 written_prints part old new (Err Memory) unwritten = tt

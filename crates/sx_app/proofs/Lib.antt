@@ -6,3 +6,5 @@ pub mod Layouts
 pub mod Indexes
 pub mod Carved
 pub mod AllMoments
+pub mod Drilled
+pub mod Accepted

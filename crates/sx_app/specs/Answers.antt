@@ -5,8 +5,9 @@ use Rattle.sx_base.specs.Files.{Files}
 use Rattle.sx_base.specs.declared.evidence.Part.{Part}
 use Rattle.sx_base.specs.declared.evidence.Part.TheVariants as parts
 use Rattle.sx_lines.specs.Lines.{text_of, AppendsSome}
-use Rattle.sx_words.specs.Words.{Asked, Evidence}
+use Rattle.sx_words.specs.Words.{Asked, Drill, Evidence}
 use Rattle.sx_app.specs.Commands.{part_named, reply_over}
+use Rattle.sx_app.specs.Drills.{drill_of}
 use Rattle.sx_app.specs.Evidence.{◌>>=◌, evidence_of, case_of}
 use Rattle.sx_app.specs.Refusals.{refusal_text}
 use Rattle.sx_app.specs.declared.refused.Refused.{Refused}
@@ -16,11 +17,13 @@ use Rattle.sx_app.specs.declared.refused.Refused.TheVariants.{Usage, ReadFault, 
 abbrev pub reply : Option Asked → Files → Result (List (List ℕ)) Refused
 reply None files = Err Usage
 reply (Some (Evidence db question)) files = evidence_of files db >>= λ evidence. reply_over question (case_of evidence)
+reply (Some (Drill seed leaves commits)) files = drill_of seed leaves commits
 
 -- the part of the evidence that the words name, the database where they name none
 abbrev pub part_asked : Option Asked → Part
 part_asked None = parts.Database
 part_asked (Some (Evidence db question)) = part_named question
+part_asked (Some (Drill seed leaves commits)) = parts.Database
 
 -- an answer: how the examination ends, and what it prints
 pub record Answer : Type 0 where
@@ -40,6 +43,7 @@ answer asked files = answered (part_asked asked) (reply asked files)
 abbrev pub storeless : Option Asked → Option Answer
 storeless None = Some (answered parts.Database (Err Usage))
 storeless (Some (Evidence db question)) = None
+storeless (Some (Drill seed leaves commits)) = Some (answered parts.Database (drill_of seed leaves commits))
 
 -- What an examination did of its answer: it ended so, and the sink took exactly its text. After a read fault the sink
 -- took nothing, and after a write fault or want of memory some front of the text.

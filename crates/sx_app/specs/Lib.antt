@@ -11,5 +11,6 @@ pub mod Answers
 pub mod Stages
 pub mod Labels
 pub mod Carving
+pub mod Drills
 pub mod Loaded
 pub mod Owed

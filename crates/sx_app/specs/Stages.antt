@@ -2,7 +2,7 @@
 use Rattle.std.specs.Prelude.{◌⊎◌, Option, None, Some, IsSome, IfSome, List, ℕ, ⊤}
 use Rattle.sx_base.specs.Files.{Files, file_named}
 use Rattle.sx_base.specs.declared.evidence.Part.TheVariants as parts
-use Rattle.sx_words.specs.Words.{Asked, Evidence, Question}
+use Rattle.sx_words.specs.Words.{Asked, Drill, Evidence, Question}
 use Rattle.sx_app.specs.Commands.{MayMeetOver}
 use Rattle.sx_app.specs.declared.refused.Refused.{Refused}
 use Rattle.sx_app.specs.declared.refused.Refused.TheVariants.{Usage, NoDatabase, BadHeader, TooLarge, NoMoment, Unreadable, NoTable, NoTree, NoByte, ReadFault, WriteFault, Memory}
@@ -51,9 +51,10 @@ abbrev pub Has : Option Files → List ℕ → Type 0
 Has contents db = IfSome contents (λ files. IsSome (file_named files db))
 
 -- Which refusals words may meet over any store. Words outside the grammar take no memory, and other words none where
--- the files are told and have no such database.
+-- the files are told and have no such database. A drill reads no file.
 abbrev pub MayAnswer : Option Asked → Option Files → Refused → Type 0
 MayAnswer None contents Memory = ⊥
 MayAnswer None contents refused = MayMeet Reading refused ⊎ MayMeet Writing refused
 MayAnswer (Some (Evidence db question)) contents Memory = Has contents db
 MayAnswer (Some (Evidence db question)) contents refused = MayOpen refused ⊎ MayFollow question refused
+MayAnswer (Some (Drill seed leaves commits)) contents refused = MayMeet Writing refused

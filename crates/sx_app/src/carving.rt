@@ -1,10 +1,10 @@
 //! What stands of deleted rows, where nothing uses the bytes at some moments.
-ghost use Rattle.std.specs.Prelude.{◌≡◌, List, IfOk, IfErr};
+ghost use Rattle.std.specs.Prelude.{◌≡◌, List, length, IfOk, IfErr};
 ghost use Rattle.sx_base.specs.declared.moment.Moment.{Moment};
 ghost use Rattle.sx_grammar.specs.Choice.{Rises};
 ghost use Rattle.sx_moment.specs.Gathered.{moments_of};
 ghost use Rattle.sx_moment.specs.Limits.{IsSmall};
-ghost use Rattle.sx_app.specs.Carving.{latest, selected, shapes_at, carve_at, IsCarving};
+ghost use Rattle.sx_app.specs.Carving.{latest, selected, candidates_under, shapes_at, carve_at, IsCarving};
 ghost use Rattle.sx_app.specs.declared.refused.Refused.TheVariants.{Memory};
 
 use crate::labels::images_in;
@@ -12,6 +12,7 @@ use crate::refused::Refused;
 use crate::tables::schema_at;
 use std::alloc::{AllocError, Global};
 use sx_base::Moment;
+use sx_carve::Candidates;
 use sx_carve_text::CarveLines;
 use sx_grammar::{Ctx, ShapeKey};
 use sx_images::ImageTable;
@@ -105,6 +106,20 @@ fn shapes_at(alloc: Global, snapshot: &Snapshot<'_, '_>) -> Result<Vec<ShapeKey>
             table_shapes(alloc, &schema)
         }
     }
+}
+
+/// How many candidates there are, over what was prepared for `carve`.
+pub fn count_candidates(case: &Case<'_>, snapshot: &Snapshot<'_, '_>, made: &Carving) -> u64
+    requires case { snapshot.now.case.now ≡ case.now }
+    requires made { (moments : List Moment) × IsCarving case.now moments snapshot.now.moment made.now }
+    ensures { (moments : List Moment) → IsCarving case.now moments snapshot.now.moment made.now → result ≡ length (candidates_under case.now moments snapshot.now.moment) }
+{
+    let ctx = Ctx {
+        usable: snapshot.layout().usable,
+        shapes: made.shapes.as_slice(),
+    };
+    let candidates = Candidates::over(case.evidence(), &made.images, &made.owned, ctx);
+    candidates.count() as u64
 }
 
 /// The lines of `carve`, over what was prepared for it.

@@ -12,6 +12,7 @@ ghost use Rattle.sx_app.specs.Owed.{IsAnswered, IsExamined};
 ghost use Rattle.sx_app.specs.Stages.{MayAnswer};
 
 use crate::commands::{answer_question, part_named};
+use crate::drills::run_drill;
 use crate::evidence::{gather, open_evidence};
 use crate::loaded::Loaded;
 use crate::refusals::refuse;
@@ -69,6 +70,7 @@ fn carry_out<S: Store, W: Sink>(
 {
     match request {
         Request::Evidence { db, question } => examine_evidence(alloc, db, question, store, out),
+        Request::Drill(drill) => run_drill(alloc, drill, out),
     }
 }
 

@@ -34,8 +34,12 @@ pub fn finish<L: Lines + Drop, W: Sink>(
     }
 }
 
-// Writes the lines. What can keep them from being written is a fault of the sink, or want of memory.
-fn write<L: Lines + Drop, W: Sink>(alloc: Global, mut lines: L, out: &mut W) -> Result<(), Refused>
+/// Writes the lines. What can keep them from being written is a fault of the sink, or want of memory.
+pub fn write<L: Lines + Drop, W: Sink>(
+    alloc: Global,
+    mut lines: L,
+    out: &mut W,
+) -> Result<(), Refused>
     ensures whole { OnOk result (Appends (W.taken out.old) (W.taken out.new) (text_of (L.lines lines))) }
     ensures front { OnErr result (AppendsSome (W.taken out.old) (W.taken out.new) (text_of (L.lines lines))) }
     ensures later { W.faults out.old ≤ W.faults out.new }

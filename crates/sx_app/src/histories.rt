@@ -104,7 +104,7 @@ fn moment_lines<'c, 'a>(
 /// The table of a name at a moment: `Unreadable` comes exactly where the moment's page 1 is no header, then `NoTable` where
 /// its schema has no table of that name, and then `NoTree` where the table's root is no page number.
 #[tactic(auto, unfolding(crate::specs::Histories::table_there))]
-fn table_there(
+pub fn table_there(
     alloc: Global,
     snapshot: &Snapshot<'_, '_>,
     moment: Moment,

@@ -5,6 +5,7 @@ mod carving;
 mod commands;
 mod completeness;
 mod database;
+mod drills;
 mod evidence;
 mod examination;
 mod finish;

@@ -28,9 +28,9 @@ pub fn snapshot_asked<'c, 'a>(case: &'c Case<'a>, at: When) -> Result<Snapshot<'
     }
 }
 
-// The pages at the last moment.
+/// The pages at the last moment.
 #[tactic(auto, using(crate::proofs::Missing::last_is))]
-fn last_snapshot<'c, 'a>(case: &'c Case<'a>) -> Snapshot<'c, 'a>
+pub fn last_snapshot<'c, 'a>(case: &'c Case<'a>) -> Snapshot<'c, 'a>
     ensures last { last_or None (moments_of case.now) ≡ Some result.moment }
     ensures case { result.case.now ≡ case.now }
 {

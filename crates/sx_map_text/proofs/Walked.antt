@@ -1,5 +1,5 @@
 -- The lines of stretches, one after the other.
-use Rattle.std.proofs.Common.{◌≡◌, ℕ, ◌+◌, ◌*◌, ◌<◌, ◌≤◌, ◌^◌, true, List, [], ◌∷◌, ◌++◌, length, Option, ap, subst, ◌∙◌, arith}
+use Rattle.std.proofs.Common.{◌≡◌, ℕ, ◌+◌, ◌*◌, ◌<◌, ◌≤◌, ◌^◌, true, List, [], ◌∷◌, ◌++◌, length, Option, ap, sym, subst, ◌∙◌, arith}
 use Rattle.std.specs.List.{flat_map}
 use Rattle.std.proofs.lemmas.List.{append_assoc}
 use Rattle.std.proofs.lemmas.List.Concat.{flat_map-cons}
@@ -13,9 +13,10 @@ use Rattle.sx_prov.specs.Labels.{labels_of}
 use Rattle.sx_prov.specs.Stretches.{stretches_of}
 use Rattle.sx_prov.specs.Sums.{bytes_of}
 use Rattle.sx_prov.specs.declared.stretch.Stretch.{Stretch}
-use Rattle.sx_map_text.specs.Map.{map_lines, stretch_lines, totals_line}
-use Rattle.sx_map_text.specs.Rest.{lines_along, map_from, page_rest, stretches_bytes, totals_with, with_begun, HasRoom, IsBegun}
+use Rattle.sx_map_text.specs.Map.{map_lines, stretch_lines, totals_line, totals_of}
+use Rattle.sx_map_text.specs.Rest.{lines_along, map_from, page_rest, stretches_bytes, totals_with, with_begun, with_bytes, AreBytesOf, HasRoom, IsBegun}
 use Rattle.sx_map_text.specs.declared.map_lines.Begun.{Begun}
+use Rattle.sx_map_text.specs.declared.summing.StretchBytes.{StretchBytes}
 use Rattle.sx_map_text.specs.declared.map_lines.MapLine.{MapLine}
 use Rattle.sx_map_text.specs.declared.map_lines.MapLine.TheVariants as map_line
 use Rattle.sx_map_text.specs.declared.totals.MapTotals.{MapTotals}
@@ -171,3 +172,81 @@ lines_all graph layout view size dead is =
     (0 + stretches_bytes is_fault labels layout.page_size stretches) dead (bytes_of is_owning graph layout view size) (bytes_of is_slack graph layout view size) (bytes_of is_fault graph layout view size)
     (omega (arith, owned)) (omega (arith, slack)) (omega (arith, fault))
     ∙ ap (λ n. totals_at (size * layout.page_size) (bytes_of is_owning graph layout view size) (bytes_of is_slack graph layout view size) (bytes_of is_fault graph layout view size) n) is)
+
+-- ---- the totals without lines
+
+-- totals with the stretches to come are those of all, and there is room for them
+pub record IsSumming (labels : ℕ → List Label) (page_size : ℕ) (whole totals : MapTotals) (stretches : List Stretch) : Type 0 where
+  pub sum : totals_with labels page_size totals stretches ≡ whole
+  pub room : HasRoom labels page_size totals stretches
+
+-- a stretch was added
+pub summing_more : (labels : ℕ → List Label) (page_size : ℕ) (whole totals : MapTotals) (stretch : Stretch) (old stretches : List Stretch) (bytes : StretchBytes)
+    → old ≡ stretch ∷ stretches → AreBytesOf labels page_size stretch bytes → IsSumming labels page_size whole totals old
+    → IsSumming labels page_size whole (with_bytes totals bytes) stretches
+summing_more labels page_size whole totals stretch old stretches bytes first is summing =
+    let summing = subst (IsSumming labels page_size whole totals) first summing in
+    let owned = bytes_more is_owning labels page_size stretch stretches in
+    let slack = bytes_more is_slack labels page_size stretch stretches in
+    let fault = bytes_more is_fault labels page_size stretch stretches in
+    let owned_is = is.owned in
+    let slack_is = is.slack in
+    let fault_is = is.fault in
+    let o = summing.room.owned in
+    let s = summing.room.slack in
+    let f = summing.room.fault in
+    record {
+      sum = same_totals totals.bytes (totals.owned + bytes.owned + stretches_bytes is_owning labels page_size stretches) (totals.slack + bytes.slack + stretches_bytes is_slack labels page_size stretches)
+          (totals.fault + bytes.fault + stretches_bytes is_fault labels page_size stretches) totals.dead
+          (totals.owned + stretches_bytes is_owning labels page_size (stretch ∷ stretches)) (totals.slack + stretches_bytes is_slack labels page_size (stretch ∷ stretches))
+          (totals.fault + stretches_bytes is_fault labels page_size (stretch ∷ stretches))
+          (omega (arith, owned, owned_is)) (omega (arith, slack, slack_is)) (omega (arith, fault, fault_is))
+          ∙ summing.sum;
+      room = record { owned = omega (arith, owned, o, owned_is); slack = omega (arith, slack, s, slack_is); fault = omega (arith, fault, f, fault_is) };
+    }
+
+-- its bytes can be added
+pub summing_fits : (labels : ℕ → List Label) (page_size : ℕ) (whole totals : MapTotals) (stretch : Stretch) (old stretches : List Stretch) (bytes : StretchBytes)
+    → old ≡ stretch ∷ stretches → AreBytesOf labels page_size stretch bytes → IsSumming labels page_size whole totals old
+    → (totals.owned + bytes.owned < 2 ^ 64) × (totals.slack + bytes.slack < 2 ^ 64) × (totals.fault + bytes.fault < 2 ^ 64)
+summing_fits labels page_size whole totals stretch old stretches bytes first is summing =
+    let after = summing_more labels page_size whole totals stretch old stretches bytes first is summing in
+    let o = after.room.owned in
+    let s = after.room.slack in
+    let f = after.room.fault in
+    (omega (arith, o), omega (arith, s), omega (arith, f))
+
+-- none is left
+pub summing_end : (labels : ℕ → List Label) (page_size : ℕ) (whole totals : MapTotals) (stretches : List Stretch) → stretches ≡ [] → IsSumming labels page_size whole totals stretches → totals ≡ whole
+unfolding stretches_bytes
+summing_end labels page_size whole totals stretches none summing =
+    let summing = subst (IsSumming labels page_size whole totals) none summing in
+    same_totals totals.bytes totals.owned totals.slack totals.fault totals.dead (totals.owned + stretches_bytes is_owning labels page_size []) (totals.slack + stretches_bytes is_slack labels page_size [])
+    (totals.fault + stretches_bytes is_fault labels page_size []) (omega arith) (omega arith) (omega arith)
+    ∙ summing.sum
+
+-- all are to come
+pub summing_first : (graph : Graph) (layout : Layout) (view : ℕ → Option (List ℕ)) (size dead : ℕ) → size < 2 ^ 32 → layout.page_size ≤ 65536 → dead ≡ length (dead_links graph)
+    → IsSumming (labels_of graph layout view) layout.page_size (totals_of graph layout view size) (totals_at (size * layout.page_size) 0 0 0 dead) (stretches_of (lock_page_of layout.page_size) view size)
+summing_first graph layout view size dead few small is =
+    let labels = labels_of graph layout view in
+    let stretches = stretches_of (lock_page_of layout.page_size) view size in
+    let owned = all_bytes is_owning graph layout view size in
+    let slack = all_bytes is_slack graph layout view size in
+    let fault = all_bytes is_fault graph layout view size in
+    record {
+      sum = same_totals (size * layout.page_size) (0 + stretches_bytes is_owning labels layout.page_size stretches) (0 + stretches_bytes is_slack labels layout.page_size stretches)
+          (0 + stretches_bytes is_fault labels layout.page_size stretches) dead (bytes_of is_owning graph layout view size) (bytes_of is_slack graph layout view size) (bytes_of is_fault graph layout view size)
+          (omega (arith, owned)) (omega (arith, slack)) (omega (arith, fault))
+          ∙ ap (λ n. totals_at (size * layout.page_size) (bytes_of is_owning graph layout view size) (bytes_of is_slack graph layout view size) (bytes_of is_fault graph layout view size) n) is;
+      room = room_first graph layout view size (size * layout.page_size) dead few small;
+    }
+
+pub summing_start : (graph : Graph) (layout : Layout) (view : ℕ → Option (List ℕ)) (size dead bytes : ℕ) (stretches : List Stretch) → size < 2 ^ 32 → layout.page_size ≤ 65536
+    → dead ≡ length (dead_links graph) → bytes ≡ size * layout.page_size → stretches ≡ stretches_of (lock_page_of layout.page_size) view size
+    → IsSumming (labels_of graph layout view) layout.page_size (totals_of graph layout view size) (totals_at bytes 0 0 0 dead) stretches
+summing_start graph layout view size dead bytes stretches few small is all start =
+    let whole = totals_of graph layout view size in
+    let labels = labels_of graph layout view in
+    subst (λ n. IsSumming labels layout.page_size whole (totals_at n 0 0 0 dead) stretches) (sym all)
+    (subst (IsSumming labels layout.page_size whole (totals_at (size * layout.page_size) 0 0 0 dead)) (sym start) (summing_first graph layout view size dead few small is))

@@ -17,6 +17,7 @@ use Rattle.sx_map_text.specs.declared.page_map_lines.PageMapLines.{PageMapLines}
 use Rattle.sx_map_text.specs.declared.headless.HeadlessLines.{HeadlessLines}
 use Rattle.sx_map_text.specs.declared.headless.HeadlessLine.{HeadlessLine}
 use Rattle.sx_map_text.specs.declared.headless.HeadlessLine.TheVariants as lines
+use Rattle.sx_map_text.specs.declared.summing.StretchBytes.{StretchBytes}
 use Rattle.sx_map_text.specs.declared.map_lines.Begun.{Begun}
 use Rattle.sx_map_text.specs.declared.map_lines.MapLine.{MapLine}
 use Rattle.sx_map_text.specs.declared.map_lines.MapLine.TheVariants as map_line
@@ -90,6 +91,22 @@ with_begun totals begun = record {
   owned = totals.owned + begun.owned;
   slack = totals.slack + begun.slack;
   fault = totals.fault + begun.fault;
+  dead = totals.dead;
+}
+
+-- the bytes of a stretch are known
+pub record AreBytesOf (labels : ℕ → List Label) (page_size : ℕ) (stretch : Stretch) (bytes : StretchBytes) : Type 0 where
+  pub owned : bytes.owned ≡ stretch_bytes is_owning labels page_size stretch
+  pub slack : bytes.slack ≡ stretch_bytes is_slack labels page_size stretch
+  pub fault : bytes.fault ≡ stretch_bytes is_fault labels page_size stretch
+
+-- totals, and the bytes of a stretch besides
+abbrev pub with_bytes : MapTotals → StretchBytes → MapTotals
+with_bytes totals bytes = record {
+  bytes = totals.bytes;
+  owned = totals.owned + bytes.owned;
+  slack = totals.slack + bytes.slack;
+  fault = totals.fault + bytes.fault;
   dead = totals.dead;
 }
 

@@ -4,11 +4,13 @@
 mod headless;
 mod map_lines;
 mod page_map_lines;
+mod summing;
 mod totals;
 
 pub use headless::HeadlessLines;
 pub use map_lines::MapLines;
 pub use page_map_lines::{PageMapLines, put_absent_line};
+pub use summing::map_totals;
 pub use totals::{MapTotals, put_totals_line};
 
 #[cfg(test)]

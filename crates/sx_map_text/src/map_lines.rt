@@ -187,7 +187,7 @@ fn begin<'a, P: Pages<'a>>(
 }
 
 /// The bytes of absent pages from one to another.
-fn absent_bytes(first: u32, last: u32, page_size: u32) -> u64
+pub fn absent_bytes(first: u32, last: u32, page_size: u32) -> u64
     ensures { result ≡ (last + 1 - first) * page_size }
 {
     let pages = (u64::from(last) + 1).saturating_sub(u64::from(first));
