@@ -14,7 +14,7 @@ use Rattle.sx_carve.specs.Evidence.{evidence_bytes, AreOf, Fit}
 use Rattle.sx_carve.proofs.TellingLemmas.{same_told}
 use Rattle.sx_carve_text.specs.Carve.{carve_lines}
 use Rattle.sx_app.specs.Labels.{images_in, lengths_in}
-use Rattle.sx_app.specs.Carving.{told_under, shapes_at, carve_at, IsCarving}
+use Rattle.sx_app.specs.Carving.{told_under, shapes_at, candidates_under, carve_at, IsCarving}
 use Rattle.sx_app.specs.declared.carving.Carving.{Carving}
 use Rattle.sx_app.proofs.Layouts.{image_size_is, page_size_is}
 
@@ -63,5 +63,19 @@ lines_are case moments last made encoding usable shapes bytes log rollback is en
     let size = ap (λ (t : Table). t.page_size) is.images ∙ image_size_is case in
     rw (encoded, used, given ∙ is.shapes, stored, logged, rolled, images, size)
     (ap (carve_lines (encoding_at case last) (images_of (images_in case)))
+    (same_told (layout_of case last).usable (shapes_at case last) (told_by made.owned) (told_under case moments) case.header.page_size
+    (evidence_bytes case.database case.wal_bytes case.journal_bytes) (images_of (images_in case)) is.told))
+
+-- and so are as many
+pub count_is : (case : Gathered) (moments : List Moment) (last : Moment) (made : Carving) (usable : ℕ) (shapes : List ShapeKey)
+    (bytes : List ℕ) (log rollback : Option (List ℕ)) → IsCarving case moments last made → usable ≡ (layout_of case last).usable
+    → shapes ≡ made.shapes.items → bytes ≡ case.database → log ≡ case.wal_bytes → rollback ≡ case.journal_bytes
+    → length (candidates_of usable shapes (told_by made.owned) made.images.page_size (evidence_bytes bytes log rollback) (images_of made.images))
+    ≡ length (candidates_under case moments last)
+count_is case moments last made usable shapes bytes log rollback is used given stored logged rolled =
+    let images = ap images_of is.images in
+    let size = ap (λ (t : Table). t.page_size) is.images ∙ image_size_is case in
+    rw (used, given ∙ is.shapes, stored, logged, rolled, images, size)
+    (ap length
     (same_told (layout_of case last).usable (shapes_at case last) (told_by made.owned) (told_under case moments) case.header.page_size
     (evidence_bytes case.database case.wal_bytes case.journal_bytes) (images_of (images_in case)) is.told))

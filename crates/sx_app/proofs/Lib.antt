@@ -8,3 +8,5 @@ pub mod Carved
 pub mod AllMoments
 pub mod Drilled
 pub mod Accepted
+pub mod Lines
+pub mod Counting

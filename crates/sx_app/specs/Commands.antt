@@ -12,6 +12,7 @@ use Rattle.sx_app.specs.Labels.{explain_at, map_at, MayMissByte}
 use Rattle.sx_app.specs.Generations.{generations_of}
 use Rattle.sx_app.specs.Histories.{histories_of}
 use Rattle.sx_app.specs.Moments.{moment_of, MayMiss}
+use Rattle.sx_app.specs.Reports.{report_of}
 use Rattle.sx_app.specs.Tables.{table_lines, MayMissTable}
 use Rattle.sx_app.specs.declared.refused.Refused.{Refused}
 
@@ -30,6 +31,7 @@ reply_over (words.Carve which) case = moment_of case (latest which) >>= λ momen
 reply_over (words.Explain place at) case = moment_of case at >>= λ moment. explain_at case moment place
 reply_over words.Generations case = Ok (generations_of case)
 reply_over (words.History table rowid) case = Ok (histories_of case table rowid)
+reply_over words.Report case = Ok (report_of case)
 
 -- which moments, tables and bytes that aren't there a question may meet: one row a command
 abbrev pub MayMeetOver : words.Question → Refused → Type 0
@@ -41,3 +43,4 @@ MayMeetOver (words.Carve which) refused = MayMiss (latest which) refused
 MayMeetOver (words.Explain place at) refused = MayMissByte at refused
 MayMeetOver words.Generations refused = ⊥
 MayMeetOver (words.History table rowid) refused = ⊥
+MayMeetOver words.Report refused = ⊥

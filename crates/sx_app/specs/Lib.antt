@@ -12,5 +12,6 @@ pub mod Stages
 pub mod Labels
 pub mod Carving
 pub mod Drills
+pub mod Reports
 pub mod Loaded
 pub mod Owed

@@ -118,6 +118,8 @@ pub fn count_candidates(case: &Case<'_>, snapshot: &Snapshot<'_, '_>, made: &Car
         usable: snapshot.layout().usable,
         shapes: made.shapes.as_slice(),
     };
+    // That the images have a count says how many candidates there can be.
+    let _images = made.images.count();
     let candidates = Candidates::over(case.evidence(), &made.images, &made.owned, ctx);
     candidates.count() as u64
 }

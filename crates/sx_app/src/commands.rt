@@ -12,12 +12,13 @@ ghost use Rattle.sx_app.specs.Owed.{Gives, IsAnswered};
 ghost use Rattle.sx_app.specs.Stages.{MayMeet, Deciding};
 
 use crate::carving::{carve_lines, latest, prepare};
-use crate::finish::finish;
+use crate::finish::{finish, finish_line};
 use crate::generations::generations_lines;
 use crate::histories::HistoryLines;
 use crate::labels::{explain_lines, headless_lines, images_in, map_lines, roots_at};
 use crate::moments::{moment_meant, snapshot_asked};
 use crate::refused::Refused;
+use crate::reports::report_line;
 use crate::tables::show_lines;
 use std::alloc::Global;
 use sx_base::{Moment, Part, Place};
@@ -41,7 +42,8 @@ pub fn part_named(question: &Question<'_>) -> Part
         | Question::Page { .. }
         | Question::Carve { .. }
         | Question::Generations
-        | Question::History { .. } => Part::Database,
+        | Question::History { .. }
+        | Question::Report => Part::Database,
     }
 }
 
@@ -68,6 +70,7 @@ pub fn answer_question<W: Sink>(
             let lines = HistoryLines::new(alloc, case, table, *rowid);
             finish(alloc, question, Ok(lines), out)
         }
+        Question::Report => finish_line(alloc, question, report_line(alloc, case), out),
     }
 }
 

@@ -1,7 +1,7 @@
 //! Drills: evidence that is made from a seed, examined as any other is.
-ghost use Rattle.std.specs.Prelude.{◌≡◌, ℕ, Bool, Option, Ok, codes, IfOk, IfErr};
+ghost use Rattle.std.specs.Prelude.{◌≡◌, ℕ, Bool, Option, Some, Ok, codes, count_by, length, option_copied, IfOk, IfErr};
 ghost use Rattle.sx_base.specs.Files.{Files};
-ghost use Rattle.sx_moment.specs.Gathered.{size_at};
+ghost use Rattle.sx_moment.specs.Gathered.{bytes_in, size_at};
 ghost use Rattle.sx_moment.specs.Heads.{layout_of};
 ghost use Rattle.sx_moment.specs.Limits.{IsSmall};
 ghost use Rattle.sx_moment.specs.Views.{view_of};

@@ -16,6 +16,7 @@ mod loaded;
 mod moments;
 mod refusals;
 mod refused;
+mod reports;
 mod tables;
 
 pub use completeness::answers_are_complete;

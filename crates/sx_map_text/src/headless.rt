@@ -43,15 +43,21 @@ impl HeadlessLines {
     fn put_totals(&self, line: &mut String) -> Result<(), AllocError>
         ensures { OnOk result (string_bytes line.new ≡ ended (totals_line (headless_totals self.now.size self.now.page_size))) }
     {
-        let bytes = u64::from(self.size) * u64::from(self.page_size);
-        let totals = MapTotals {
-            bytes,
-            owned: 0,
-            slack: 0,
-            fault: bytes,
-            dead: 0,
-        };
-        put_totals_line(totals, line)
+        put_totals_line(headless_totals(self.size, self.page_size), line)
+    }
+}
+
+/// The totals of a moment without a head that has so many pages of this size: what the last line of `map` tells.
+pub fn headless_totals(size: u32, page_size: u32) -> MapTotals
+    ensures { result ≡ headless_totals size page_size }
+{
+    let bytes = u64::from(size) * u64::from(page_size);
+    MapTotals {
+        bytes,
+        owned: 0,
+        slack: 0,
+        fault: bytes,
+        dead: 0,
     }
 }
 

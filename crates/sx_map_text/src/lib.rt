@@ -7,7 +7,7 @@ mod page_map_lines;
 mod summing;
 mod totals;
 
-pub use headless::HeadlessLines;
+pub use headless::{HeadlessLines, headless_totals};
 pub use map_lines::MapLines;
 pub use page_map_lines::{PageMapLines, put_absent_line};
 pub use summing::map_totals;

@@ -4,6 +4,7 @@
 mod tally;
 mod timeline;
 
+pub use tally::{Tally, count_classes};
 pub use timeline::TimelineLines;
 
 #[cfg(test)]
