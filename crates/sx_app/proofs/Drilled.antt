@@ -1,5 +1,5 @@
 -- What a drill owes, over every store: none is asked.
-use Rattle.std.proofs.Common.{◌≡◌, ◌⊎◌, ℕ, ◌≤◌, ◌+◌, Bool, true, false, IsTrue, List, ◌++◌, length, Option, None, Some, Result, Ok, Err, IfSome, IfErr, IsErrOf, OnOk, OnErr, arith, refl, sym, ap, subst, ◌∙◌}
+use Rattle.std.proofs.Common.{◌≡◌, ℕ, ◌≤◌, Bool, List, Option, None, Some, Result, Ok, Err, IfSome, IfErr, IsErrOf, OnOk, OnErr, arith, sym, subst}
 use Rattle.std.proofs.KnownBytes.{Appends-nil}
 use Rattle.std.specs.Io.KnownBytes.{Appends}
 use Rattle.sx_base.specs.Causes.{Rose}

@@ -1,5 +1,5 @@
 //! What `report` tells.
-ghost use Rattle.std.specs.Prelude.{◌≡◌, length, map, IsTrue, IfOk, IfErr};
+ghost use Rattle.std.specs.Prelude.{◌≡◌, [], ◌∷◌, length, map, Ok, IsTrue, IfOk, IfErr};
 ghost use Rattle.std.specs.Option.{option_map};
 ghost use Rattle.sx_map_text.specs.Map.{totals_of};
 ghost use Rattle.sx_moment.specs.Gathered.{is_moment, moments_of, size_at};
@@ -7,11 +7,11 @@ ghost use Rattle.sx_moment.specs.Heads.{layout_of};
 ghost use Rattle.sx_moment.specs.Limits.{IsSmall};
 ghost use Rattle.sx_moment.specs.Views.{view_of};
 ghost use Rattle.sx_report.specs.Facts.{facts_by, file_by, journal_by, log_by};
-ghost use Rattle.sx_report.specs.Report.{report_text};
 ghost use Rattle.sx_words.specs.Words as words;
 ghost use Rattle.sx_app.specs.Drills.{candidate_count};
 ghost use Rattle.sx_app.specs.Labels.{graph_at};
-ghost use Rattle.sx_app.specs.Reports.{facts_of, file_facts, journal_facts, log_facts, moment_facts, totals_at};
+ghost use Rattle.sx_app.specs.Reports.{facts_of, report_of, file_facts, journal_facts, log_facts, moment_facts, totals_at};
+ghost use Rattle.sx_app.specs.Owed.{Gives};
 ghost use Rattle.sx_app.specs.Stages.{MayMeet, Deciding};
 ghost use Rattle.sx_app.specs.declared.refused.Refused.TheVariants.{Memory};
 
@@ -34,7 +34,7 @@ use sx_timeline_text::count_classes;
 /// owned.
 pub fn report_line(alloc: Global, case: &Case<'_>) -> Result<Vec<u8>, Refused>
     requires { IsSmall case.now.database case.now.wal_bytes case.now.journal_bytes }
-    ensures told { IfOk result (λ line. line.items ≡ report_text (facts_of case.now)) }
+    ensures told { Gives (λ line. line.items ∷ []) result (Ok (report_of case.now)) }
     ensures may { IfErr result (MayMeet (Deciding words.Report)) }
 {
     let facts = case_facts(alloc, case)?;
