@@ -161,7 +161,7 @@ any_case : (image : FirstImage) (images : List FirstImage) (number : ℕ) (same 
 any_case image images number true is rest = rw is refl
 any_case image images number false is rest = rw is rest
 
-any_page : (images : List FirstImage) (number : ℕ) → list_any (λ page. page == number) (map (λ image. image.page) images) ≡ is_some (first_in images number)
+pub any_page : (images : List FirstImage) (number : ℕ) → list_any (λ page. page == number) (map (λ image. image.page) images) ≡ is_some (first_in images number)
 any_page [] number = refl
 any_page (image ∷ images) number = any_case image images number (image.page == number) refl (any_page images number)
 

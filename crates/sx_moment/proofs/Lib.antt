@@ -12,3 +12,7 @@ pub mod Turned
 pub mod Seen
 pub mod Counted
 pub mod Firsts
+pub mod Changed
+pub mod Numbered
+pub mod Stepped
+pub mod Swept

@@ -10,3 +10,8 @@ pub mod Gathering
 pub mod Turns
 pub mod Counts
 pub mod Kept
+pub mod Ranks
+pub mod Changes
+pub mod Turning
+pub mod Sweep
+pub mod Upkeep

@@ -2,6 +2,7 @@
 #![tactic(auto)]
 
 mod case;
+mod changes;
 mod counts;
 mod evidence;
 mod file_pages;
@@ -13,14 +14,19 @@ mod marks;
 mod newest_slot;
 mod origin;
 mod pages;
+mod ranked;
+mod ranks;
 mod snapshot;
 mod sources;
+mod sweep;
+mod turning;
 mod turns;
 mod views;
 
 pub use case::Case;
 pub use evidence::Evidence;
 pub use snapshot::Snapshot;
+pub use sweep::Sweep;
 
 #[cfg(test)]
 mod tests;
