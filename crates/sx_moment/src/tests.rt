@@ -12,6 +12,7 @@ use sx_wal::sums;
 mod journals;
 mod large;
 mod logs;
+mod sweeps;
 
 // What a page of 512 bytes holds: the header of a database of so many pages, or one byte everywhere.
 #[derive(Clone, Copy)]

@@ -3,7 +3,11 @@ use super::*;
 
 // A live journal of segments with a record each: its page number, its image, and what is added to the right checksum. The
 // first header states so many pages.
-fn journal(alloc: Global, pages: u32, records: &[(u8, Image, u8)]) -> Result<Vec<u8>, Fail> {
+pub(super) fn journal(
+    alloc: Global,
+    pages: u32,
+    records: &[(u8, Image, u8)],
+) -> Result<Vec<u8>, Fail> {
     let mut bytes = Vec::new(alloc);
     for (no, image, off) in records {
         let start = bytes.len().next_multiple_of(512);
