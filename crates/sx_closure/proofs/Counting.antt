@@ -60,7 +60,7 @@ kept_case held page target kept false is false there all = rw (there, is) refl
 kept_case held page target kept true is false there all =
     absurd (false≢true (sym there ∙ ap (is_held held) (eqb-true target.pair.page page is) ∙ all))
 
-to_held : (held : List ℕ) (page : ℕ) (targets : List Target) → is_held held page ≡ true → to_page page (filter (is_reference held) targets) ≡ to_page page targets
+pub to_held : (held : List ℕ) (page : ℕ) (targets : List Target) → is_held held page ≡ true → to_page page (filter (is_reference held) targets) ≡ to_page page targets
 to_held held page [] there = refl
 to_held held page (target ∷ targets) there =
     kept_case held page target (filter (is_reference held) targets) (target.pair.page == page) refl (is_reference held target) refl there

@@ -6,3 +6,4 @@ pub mod Walks
 pub mod Counting
 pub mod Numbering
 pub mod Closing
+pub mod Standing

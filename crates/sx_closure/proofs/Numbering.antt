@@ -1,19 +1,18 @@
 -- The numbers of the pages of chains: each is right, since the page before it was met before it.
-use Rattle.std.proofs.Common.{◌≡◌, ℕ, zero, suc, ◌+◌, ◌-◌, ◌*◌, ◌<◌, ◌≤◌, ◌==◌, ◌&&◌, ◌||◌, Bool, true, false, cond, List, [], ◌∷◌, ◌++◌, length, map, fold, set, get_or, replicate, take, drop, ◌⊎◌, inl, inr, Option, Some, None, is_some, refl, sym, ap, subst, ◌∙◌, arith, add-mul, one-mul}
+use Rattle.std.proofs.Common.{◌≡◌, ℕ, zero, suc, ◌+◌, ◌-◌, ◌*◌, ◌<◌, ◌≤◌, ◌==◌, ◌||◌, Bool, true, false, cond, List, [], ◌∷◌, ◌++◌, length, map, fold, set, get_or, take, drop, ◌⊎◌, inl, inr, Option, Some, None, refl, sym, ap, subst, ◌∙◌, arith, add-mul, one-mul}
 use Rattle.std.specs.Option.{option_map}
 use Rattle.std.specs.List.{flat_map, All}
 use Rattle.std.proofs.lemmas.Bool.{and_parts, or_cases, or_left, or_right, false≢true, eqb-true, eqb-false, eq-eqb, cases_lt}
-use Rattle.std.proofs.lemmas.List.{take-append-le, take-take, take_more, append-nil, take-append-drop, get_or_append_left, length-take}
+use Rattle.std.proofs.lemmas.List.{take-append-le, take-take, take_more, take-append-drop, get_or_append_left}
 use Rattle.std.proofs.lemmas.List.Concat.{flat_map-append}
 use Rattle.std.proofs.lemmas.List.Elements.{All-head, All-tail}
 use Rattle.std.proofs.lemmas.List.Sums.{fold_more}
-use Rattle.sx_base.specs.declared.role.Role.{Role}
 use Rattle.sx_closure.specs.declared.pair.Pair.{Pair}
 use Rattle.sx_closure.specs.declared.pair.Source.{Source}
 use Rattle.sx_closure.specs.declared.pair.Source.TheVariants.{Root, Cell, Page}
 use Rattle.sx_closure.specs.declared.pair.Target.{Target}
 use Rattle.sx_closure.specs.Graph.{same_pair, is_in, is_named, comes_from, comes_from_no_page, Graph, IsGraph, is_held, to_page, only}
-use Rattle.sx_closure.specs.Chains.{page_of, page_before, rest_of, rest_at, IsChain, is_overflow, IsPlaced, IsLeft, number_by, number_of}
+use Rattle.sx_closure.specs.Chains.{page_of, page_before, rest_of, rest_at, IsChain, is_overflow, IsLeft, number_by, number_of}
 use Rattle.sx_closure.specs.Tallying.{Table, blank, rank_of, entry_at, one_of, one_at, left_by_rank, number_at, number_before, numbered_at, numbered, left_at}
 use Rattle.sx_closure.proofs.Tallies.{Differ, at_rank, set_at_rank}
 use Rattle.sx_closure.proofs.Pairs.{same_is, same_self, is_in_append, or_none}
@@ -173,12 +172,12 @@ among_case page one target targets false is at (inl same) more =
     absurd (false≢true (sym is ∙ eq-eqb one.pair.page page (ap (λ t. t.pair.page) same ∙ at)))
 among_case page one target targets false is at (inr there) more = more there
 
-among_page : (page : ℕ) (target : Target) (targets : List Target) → target.pair.page ≡ page → Among targets target → Among (to_page page targets) target
+pub among_page : (page : ℕ) (target : Target) (targets : List Target) → target.pair.page ≡ page → Among targets target → Among (to_page page targets) target
 among_page page target [] at there = absurd there
 among_page page target (one ∷ targets) at there =
     among_case page one target targets (one.pair.page == page) refl at there (among_page page target targets at)
 
-only_is : (targets : List Target) (target other : Target) → only targets ≡ Some target → Among targets other → other ≡ target
+pub only_is : (targets : List Target) (target other : Target) → only targets ≡ Some target → Among targets other → other ≡ target
 only_is [] target other one there = absurd there
 only_is (first ∷ []) target other one (inl is) = let both : Some first ≡ Some target = one in let same : first ≡ target = cc in sym is ∙ same
 only_is (first ∷ []) target other one (inr there) = absurd there

@@ -1,5 +1,5 @@
 -- The views that are kept of pages, taken anew where they may have changed.
-use Rattle.std.proofs.Common.{◌≡◌, ℕ, zero, suc, refl, ◌+◌, ◌<◌, List, [], ◌∷◌, length, map, fold, set, take, get_or, Option, Some, None, sym, ap, ◌∙◌, arith, inl, inr, ◌⊎◌}
+use Rattle.std.proofs.Common.{◌≡◌, ℕ, zero, suc, refl, ◌+◌, ◌<◌, List, [], ◌∷◌, length, map, fold, set, take, get_or, Option, None, sym, ap, ◌∙◌, arith, inl, inr, ◌⊎◌}
 use Rattle.std.specs.List.{All, Contains}
 use Rattle.std.proofs.lemmas.List.{get_or-set_same, get_or-set_other, length-map, length-set, map-set, ext_get_or}
 use Rattle.std.proofs.lemmas.Bool.{cases_eq}
@@ -7,14 +7,14 @@ use Rattle.std.proofs.lemmas.List.Elements.{All-head, All-tail}
 use Rattle.std.proofs.lemmas.List.Sums.{fold_more}
 use Rattle.sx_refs.specs.Walks.{looked}
 
-none_there : (x : ℕ) → Contains [] x → ⊥
+pub none_there : (x : ℕ) → Contains [] x → ⊥
 none_there x (k, within, is) = omega (arith, within)
 
-first_or : (one : ℕ) (changed : List ℕ) (x : ℕ) → (x ≡ one → ⊥) → (Contains changed x → ⊥) → Contains (one ∷ changed) x → ⊥
+pub first_or : (one : ℕ) (changed : List ℕ) (x : ℕ) → (x ≡ one → ⊥) → (Contains changed x → ⊥) → Contains (one ∷ changed) x → ⊥
 first_or one changed x differ other (zero, within, is) = differ (sym is)
 first_or one changed x differ other (suc k, within, is) = other (k, omega (arith, within), is)
 
-map_at : (view : ℕ → Option (List ℕ)) (numbers : List ℕ) (i : ℕ) → i < length numbers → get_or (map view numbers) i None ≡ view (get_or numbers i 0)
+pub map_at : (view : ℕ → Option (List ℕ)) (numbers : List ℕ) (i : ℕ) → i < length numbers → get_or (map view numbers) i None ≡ view (get_or numbers i 0)
 map_at view [] i within = absurd (omega (arith, within))
 map_at view (number ∷ numbers) zero within = refl
 map_at view (number ∷ numbers) (suc i) within = map_at view numbers i (omega (arith, within))

@@ -2,6 +2,7 @@
 #![tactic(auto)]
 
 mod pages;
+mod steady;
 mod targets;
 mod walk;
 

@@ -195,13 +195,13 @@ fn a_freelist_and_a_pointer_map(rt: HostRuntime) -> Result<(), Fail> {
     assert_table(&rt, alloc, &sheets, &layout(4, true, 3), &[], &want, 1)
 }
 
-/// What is said of the one page of a moment, and then of the next moment.
+/// What is said of the one page of a moment, and then of the next moment; and whether the table stood.
 fn walked<'a>(
     rt: &impl Abort,
     alloc: Global,
     old: &[&'a [u8]],
     new: &[&'a [u8]],
-) -> Result<(Said, Said), Fail> {
+) -> Result<(Said, Said, bool), Fail> {
     let layout = layout(1, false, 0);
     assert!(rt; old.len() == 1);
     assert!(rt; new.len() == 1);
@@ -209,8 +209,8 @@ fn walked<'a>(
     let mut walk = RefWalk::start(alloc, &Sheets::new(512, old), &[1], &layout, &[])?;
     let first = said(walk.table(), 1);
     walk.advance(&Sheets::new(512, new), &[0], &layout, &[])?;
-    assert!(rt; walk.touched().is_none());
-    Ok((first, said(walk.table(), 1)))
+    let stood = walk.touched().is_some();
+    Ok((first, said(walk.table(), 1), stood))
 }
 
 #[test]
@@ -222,6 +222,11 @@ fn a_walk_goes_on_with_the_pages_that_changed(rt: HostRuntime) -> Result<(), Fai
         b"\x05\x00\x00\x00\x00\x00\x00\x00\x00\x00\x00\x01",
     );
     let said = walked(&rt, rt.alloc(), &[&own_child], &[&leaf])?;
-    assert_eq!(rt; said, ((2, None, None), ROOT));
+    assert_eq!(rt; said, ((2, None, None), ROOT, false));
+    // in other roles it names another page now
+    let mut other = leaf;
+    other[3] = 1;
+    let said = walked(&rt, rt.alloc(), &[&leaf], &[&other])?;
+    assert_eq!(rt; said, (ROOT, ROOT, true));
     Ok(())
 }

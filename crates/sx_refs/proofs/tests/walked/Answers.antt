@@ -1,5 +1,4 @@
-use Rattle.std.proofs.Common.{◌≡◌, ◌<◌, ap, length, refl, subst, sym, arith, [], ◌∷◌}
-use Rattle.std.specs.List.{Contains}
+use Rattle.std.proofs.Common.{◌≡◌, ap, length, refl, subst, sym, arith, [], ◌∷◌}
 use Rattle.sx_base.specs.Sheets.{sheet_view}
 use Rattle.sx_refs.specs.Walks.{Covers}
 use Rattle.sx_refs.proofs.OnePage.{one_rises, one_covers, none_other, zero_within}
