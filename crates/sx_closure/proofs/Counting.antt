@@ -22,7 +22,7 @@ filter_pieces test f [] = refl
 filter_pieces test f (x ∷ xs) =
     filter-append test (f x) (flat_map f xs) ∙ ap (λ rest. filter test (f x) ++ rest) (filter_pieces test f xs)
 
-same_kept : (graph : Graph) (met : List Pair) (test : Target → Bool) → Apart met → Apart (reached graph) → ((pair : Pair) → is_in met pair ≡ is_in (reached graph) pair)
+pub same_kept : (graph : Graph) (met : List Pair) (test : Target → Bool) → Apart met → Apart (reached graph) → ((pair : Pair) → is_in met pair ≡ is_in (reached graph) pair)
     → IsPermutation (filter test (seen_by graph met)) (filter test (all_targets graph))
 same_kept graph met test apart differ same =
     let pieces : Pair → List Target = λ pair. filter test (graph.targets pair) in

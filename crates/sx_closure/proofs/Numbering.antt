@@ -184,7 +184,7 @@ only_is (first ∷ []) target other one (inr there) = absurd there
 only_is (first ∷ second ∷ more) target other one there = let never : None ≡ Some target = one in cc
 
 -- the one target of a page stands in the list, and names the page
-only_among : (targets : List Target) (target : Target) → only targets ≡ Some target → Among targets target
+pub only_among : (targets : List Target) (target : Target) → only targets ≡ Some target → Among targets target
 only_among [] target one = let never : None ≡ Some target = one in cc
 only_among (first ∷ []) target one = let both : Some first ≡ Some target = one in let same : first ≡ target = cc in inl same
 only_among (first ∷ second ∷ more) target one = let never : None ≡ Some target = one in cc
@@ -195,11 +195,11 @@ of_page page one target targets true is (inl same) more = (inl same, ap (λ t. t
 of_page page one target targets true is (inr there) more = let rest = more there in (inr rest.0, rest.1)
 of_page page one target targets false is there more = let rest = more there in (inr rest.0, rest.1)
 
-page_among : (page : ℕ) (target : Target) (targets : List Target) → Among (to_page page targets) target → Among targets target × (target.pair.page ≡ page)
+pub page_among : (page : ℕ) (target : Target) (targets : List Target) → Among (to_page page targets) target → Among targets target × (target.pair.page ≡ page)
 page_among page target [] there = absurd there
 page_among page target (one ∷ targets) there = of_page page one target targets (one.pair.page == page) refl there (page_among page target targets)
 
-among_named : (targets : List Target) (target : Target) → Among targets target → is_named targets target.pair ≡ true
+pub among_named : (targets : List Target) (target : Target) → Among targets target → is_named targets target.pair ≡ true
 among_named [] target there = absurd there
 among_named (one ∷ targets) target (inl is) = or_left (same_pair target.pair one.pair) (is_named targets target.pair) (ap (λ t. same_pair target.pair t.pair) is ∙ same_self target.pair)
 among_named (one ∷ targets) target (inr there) = or_right (same_pair target.pair one.pair) (is_named targets target.pair) (among_named targets target there)

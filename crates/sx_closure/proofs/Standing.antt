@@ -20,7 +20,7 @@ pub record IsSameGraph (one two : Graph) : Type 0 where
   pub roots : one.roots ≡ two.roots
   pub targets : (pair : Pair) → is_in (reached one) pair ≡ true → one.targets pair ≡ two.targets pair
 
-pieces_same : (f g : Pair → List Target) (pairs : List Pair) → ((pair : Pair) → is_in pairs pair ≡ true → f pair ≡ g pair) → flat_map f pairs ≡ flat_map g pairs
+pub pieces_same : (f g : Pair → List Target) (pairs : List Pair) → ((pair : Pair) → is_in pairs pair ≡ true → f pair ≡ g pair) → flat_map f pairs ≡ flat_map g pairs
 pieces_same f g [] same = refl
 pieces_same f g (pair ∷ pairs) same =
     ap (λ front. front ++ flat_map f pairs) (same pair (is_in_head pair pairs))
@@ -76,7 +76,7 @@ more_named graph some others pair within named =
     let from = named_from graph.targets some pair named in
     named_to graph.targets others from.source pair (within from.source from.there) from.names
 
-reach_named : (graph : Graph) (rounds : ℕ) (pair : Pair) → is_in (reach graph rounds) pair ≡ true
+pub reach_named : (graph : Graph) (rounds : ℕ) (pair : Pair) → is_in (reach graph rounds) pair ≡ true
     → is_named (graph.roots ++ flat_map graph.targets (reach graph rounds)) pair ≡ true
 reach_named graph zero pair there =
     named_append graph.roots (flat_map graph.targets (reach graph 0)) pair
@@ -98,7 +98,7 @@ reach_named graph (suc rounds) pair there =
     ]
 
 -- a target that names the pair
-record IsNamedBy (targets : List Target) (pair : Pair) : Type 0 where
+pub record IsNamedBy (targets : List Target) (pair : Pair) : Type 0 where
   pub target : Target
   pub among : Among targets target
   pub names : target.pair ≡ pair
@@ -108,7 +108,7 @@ named_case : (one : Target) (targets : List Target) (pair : Pair) (b : Bool) →
 named_case one targets pair true is named more = record { target = one; among = inl refl; names = sym (same_is pair one.pair is) }
 named_case one targets pair false is named more = let rest = more named in record { target = rest.target; among = inr rest.among; names = rest.names }
 
-named_by : (targets : List Target) (pair : Pair) → is_named targets pair ≡ true → IsNamedBy targets pair
+pub named_by : (targets : List Target) (pair : Pair) → is_named targets pair ≡ true → IsNamedBy targets pair
 named_by [] pair named = absurd (false≢true named)
 named_by (one ∷ targets) pair named = named_case one targets pair (same_pair pair one.pair) refl named (named_by targets pair)
 

@@ -80,10 +80,10 @@ pub record Begins (front whole : List Pair) : Type 0 where
   pub more : List Pair
   pub joined : whole ≡ front ++ more
 
-begins_same : (front : List Pair) → Begins front front
+pub begins_same : (front : List Pair) → Begins front front
 begins_same front = record { more = []; joined = sym (append-nil front) }
 
-begins_trans : (one two three : List Pair) → Begins one two → Begins two three → Begins one three
+pub begins_trans : (one two three : List Pair) → Begins one two → Begins two three → Begins one three
 begins_trans one two three first second = record {
   more = first.more ++ second.more;
   joined = second.joined ∙ ap (λ xs. xs ++ second.more) first.joined ∙ append_assoc one first.more second.more;

@@ -13,6 +13,7 @@ mod tally;
 pub use closure::close;
 pub use links::Links;
 pub use pair::{Pair, Source, Target};
+pub use rank::rank_of;
 pub use receiver::{Kept, Receiver, give_all};
 pub use table::RefTable;
 pub use tally::Tally;

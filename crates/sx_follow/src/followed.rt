@@ -1,0 +1,33 @@
+//! The sums of one graph followed to another of the same held pages.
+ghost use Rattle.std.specs.Prelude.{◌≡◌, IfOk, IfSome};
+ghost use Rattle.sx_follow.specs.Following.{CanFollow, HasFollowed};
+
+use crate::falling::{Falling, fall};
+use crate::names::Names;
+use crate::rising::{Rising, rise};
+use crate::sums::Sums;
+use std::alloc::{AllocError, Global};
+use sx_closure::Kept;
+
+/// Follows the sums of one graph to another: first what comes is added and what it reaches rises, then what goes is taken
+/// back and what nothing names any more falls, and then each pair that lost a name and stands must have a way of single
+/// references from a root, in so many steps together. `None` where one hasn't: then the sums have to be made anew.
+pub fn follow<N: Names>(
+    alloc: Global,
+    names: &N,
+    sums: Sums,
+    come: &Kept,
+    gone: &Kept,
+    steps: u64,
+) -> Result<Option<Sums>, AllocError>
+    requires { CanFollow (N.graph names.now) sums come.now gone.now }
+    ensures { IfOk result (λ followed. IfSome followed (HasFollowed (N.graph names.now))) }
+{
+    let mut rising = Rising::from(alloc, sums);
+    come.give(&mut rising)?;
+    rise(names, &mut rising)?;
+    let mut falling = Falling::from(alloc, rising.sums());
+    gone.give(&mut falling)?;
+    fall(names, &mut falling)?;
+    Ok(falling.checked(steps))
+}
