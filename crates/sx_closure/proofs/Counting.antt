@@ -73,7 +73,7 @@ gone_case held page target kept false is true there none = rw (there, is) refl
 gone_case held page target kept true is true there none =
     absurd (false≢true (sym none ∙ ap (is_held held) (sym (eqb-true target.pair.page page is)) ∙ there))
 
-to_missing : (held : List ℕ) (page : ℕ) (targets : List Target) → is_held held page ≡ false → to_page page (filter (is_reference held) targets) ≡ []
+pub to_missing : (held : List ℕ) (page : ℕ) (targets : List Target) → is_held held page ≡ false → to_page page (filter (is_reference held) targets) ≡ []
 to_missing held page [] none = refl
 to_missing held page (target ∷ targets) none =
     gone_case held page target (filter (is_reference held) targets) (target.pair.page == page) refl (is_reference held target) refl none

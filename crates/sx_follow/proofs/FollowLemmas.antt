@@ -1,5 +1,5 @@
 -- From the sums of one graph to those of another: what rises, what falls, and that what is left is reached.
-use Rattle.std.proofs.Common.{◌≡◌, ℕ, zero, suc, ◌+◌, ◌*◌, ◌<◌, ◌==◌, ◌&&◌, ◌||◌, Bool, true, false, not, cond, List, [], ◌∷◌, ◌++◌, length, append_assoc, append-nil, filter, fold, get_or, sum_by, Option, Some, None, IfSome, is_some, ◌⊎◌, inl, inr, refl, sym, ap, subst, ◌∙◌, arith}
+use Rattle.std.proofs.Common.{◌≡◌, ℕ, zero, suc, ◌+◌, ◌*◌, ◌<◌, ◌==◌, ◌&&◌, ◌||◌, Bool, true, false, not, cond, List, [], ◌∷◌, ◌++◌, length, append_assoc, append-nil, map, filter, fold, get_or, sum_by, Option, Some, None, IfSome, is_some, ◌⊎◌, inl, inr, refl, sym, ap, subst, ◌∙◌, arith}
 use Rattle.std.specs.List.{flat_map}
 use Rattle.std.specs.List.Sorted.{IsPermutation}
 use Rattle.std.proofs.lemmas.Bool.{and_parts, and_from, or_left, or_right, or_cases, or_from, false≢true, eqb-true}
@@ -29,8 +29,8 @@ use Rattle.sx_closure.proofs.Ranks.{differ}
 use Rattle.sx_closure.proofs.Tallies.{at_rank, rank_is_some}
 use Rattle.sx_closure.proofs.Reaching.{named_append, named_from, named_to, reach_none, reach_one, reach_held, reach_stays, apart_reach}
 use Rattle.sx_follow.proofs.Summing.{total_more, total_of, one_each, IsOne, one_of_long, ones_long, one_sum, named_some}
-use Rattle.sx_follow.proofs.SumLemmas.{sums_same}
-use Rattle.sx_follow.proofs.Following.{IsReached, IsClosed, order_apart, order_held, named_reached, marked_are, reach_enough}
+use Rattle.sx_follow.proofs.SumLemmas.{sums_none, sums_same}
+use Rattle.sx_follow.proofs.Following.{IsReached, IsClosed, order_apart, order_held, named_reached, marked_are, reach_enough, order_is_reach}
 use Rattle.sx_follow.proofs.Climbing.{AllNamed, IsGood, climb, still_reached}
 use Rattle.sx_follow.proofs.Exchanging.{IsExchange, order_exchange, to_front}
 use Rattle.sx_follow.proofs.RiseLemmas.{many_at, same_named, rising_all}
@@ -370,3 +370,42 @@ pub checked_followed : (graph : Graph) (state : Fall) (found : Option Sums) → 
 checked_followed graph state None good sourced is checked = checked
 checked_followed graph state (Some sums) good sourced is checked =
     subst (HasFollowed graph) (sym checked.0) (follow_end graph state good sourced is checked.1)
+
+-- ---- from nothing
+
+begin_rising : (graph : Graph) (held : List ℕ) → held ≡ graph.held → IsRising graph [] [] [] (record { sums = record { held = held; sums = map (λ page. nothing) held; dead = 0 }; todo = [] })
+begin_rising graph held is = record {
+  held_is = is;
+  are = sums_none held;
+  met = [];
+  order = tt;
+  parts = λ pair. refl;
+  marked = λ pair. refl;
+  apart = tt;
+  new = λ pair none. absurd (false≢true none);
+}
+
+pub roots_rising : (graph : Graph) (held : List ℕ) → IsGraph graph → held ≡ graph.held
+    → IsRising graph [] [] (graph.roots ++ []) (rose_all (record { sums = record { held = held; sums = map (λ page. nothing) held; dead = 0 }; todo = [] }) graph.roots)
+unfolding rose_all
+roots_rising graph held good is =
+    (rising_all graph [] [] [] graph.roots (record { sums = record { held = held; sums = map (λ page. nothing) held; dead = 0 }; todo = [] }) good (begin_rising graph held is)
+    (λ pair named. named_append graph.roots (flat_map graph.targets []) pair ∙ or_left (is_named graph.roots pair) (is_named (flat_map graph.targets []) pair) named)).rising
+
+pub begin_end : (graph : Graph) (state : Rise) → IsGraph graph → HasRisen graph [] [] (graph.roots ++ []) state → HasFollowed graph state.sums
+begin_end graph state good is =
+    let met = is.met in
+    let seen = flat_map graph.targets state.todo ++ (graph.roots ++ []) in
+    let apart = both_apart state.todo [] is.apart tt (λ pair there. refl) in
+    let same : (pair : Pair) → is_in (state.todo ++ []) pair ≡ is_in met pair = λ pair. is_in_append state.todo [] pair ∙ sym (is.parts pair) in
+    let perm : IsPermutation seen (seen_by graph met) = turned graph state.todo [] met [] apart (order_apart graph [] met is.order) same in
+    let closed : IsClosed graph met = λ pair named held. is.marked pair
+    ∙ and_from (is_named seen pair) (is_held graph.held pair.page)
+    (list_any-IsPermutation (λ target. same_pair pair target.pair) seen (seen_by graph met) perm ∙ named) held in
+    record {
+      held_is = is.held_is;
+      met = met;
+      order = is.order;
+      same = order_is_reach graph met good is.order closed;
+      are = sums_same seen (seen_by graph met) state.sums perm is.are;
+    }

@@ -9,9 +9,33 @@ use crate::sums::Sums;
 use std::alloc::{AllocError, Global};
 use sx_closure::Kept;
 
+/// The sums of a graph with these held pages and root targets, from nothing: what the roots name rises, and what that
+/// reaches.
+///
+/// The cost is that of asking each reached pair once and a look-up for each target. It answers `AllocError` where memory runs
+/// out, or a sum is no number of 64 bits or a count none of 32.
+pub fn begin<N: Names>(
+    alloc: Global,
+    names: &N,
+    held: Vec<u32>,
+    roots: &Kept,
+) -> Result<Sums, AllocError>
+    requires held { held.items ≡ (N.graph names.now).held }
+    requires roots { roots.now ≡ (N.graph names.now).roots }
+    ensures { IfOk result (HasFollowed (N.graph names.now)) }
+{
+    let mut rising = Rising::from(alloc, Sums::fresh(alloc, held)?);
+    roots.give(&mut rising)?;
+    rise(names, &mut rising)?;
+    Ok(rising.sums())
+}
+
 /// Follows the sums of one graph to another: first what comes is added and what it reaches rises, then what goes is taken
 /// back and what nothing names any more falls, and then each pair that lost a name and stands must have a way of single
 /// references from a root, in so many steps together. `None` where one hasn't: then the sums have to be made anew.
+///
+/// The cost is a look-up for each target that is added or taken back, asking once each pair that rises or falls, and at most
+/// so many steps. It answers `AllocError` as [`begin`] does.
 pub fn follow<N: Names>(
     alloc: Global,
     names: &N,

@@ -7,6 +7,6 @@ mod names;
 mod rising;
 mod sums;
 
-pub use followed::follow;
+pub use followed::{begin, follow};
 pub use names::Names;
 pub use sums::Sums;
