@@ -1,12 +1,10 @@
 -- Which marked pairs are still reached when some have lost a name: those that a way of single references leads to from a
 -- root, and what they name.
-use Rattle.std.proofs.Common.{◌≡◌, ℕ, ◌||◌, ◌==◌, Bool, true, false, List, [], ◌∷◌, ◌++◌, Option, Some, None, ◌⊎◌, inl, inr, refl, sym, ap, subst, ◌∙◌}
+use Rattle.std.proofs.Common.{◌≡◌, ℕ, true, List, [], ◌∷◌, ◌++◌, Option, Some, None, ◌⊎◌, inl, inr, refl, sym, ap, subst, ◌∙◌}
 use Rattle.std.specs.List.{flat_map, All}
 use Rattle.std.proofs.lemmas.List.Elements.{All-head, All-tail}
-use Rattle.std.proofs.lemmas.Bool.{or_left, or_right, or_cases, false≢true}
+use Rattle.std.proofs.lemmas.Bool.{or_right, or_cases, false≢true}
 use Rattle.sx_closure.specs.declared.pair.Pair.{Pair}
-use Rattle.sx_closure.specs.declared.pair.Source.{Source}
-use Rattle.sx_closure.specs.declared.pair.Source.TheVariants.{Root, Cell, Page}
 use Rattle.sx_closure.specs.declared.pair.Target.{Target}
 use Rattle.sx_closure.specs.Graph.{same_pair, is_in, is_named, Graph, is_held, to_page, only}
 use Rattle.sx_closure.proofs.Pairs.{same_is, is_in_head}
@@ -48,7 +46,7 @@ among_from targets (one ∷ pairs) target there =
     elim (among_split (targets one) (flat_map targets pairs) target there) [
       | inl front ↦ record { source = one; there = is_in_head one pairs; among = front }
       | inr back ↦ (let rest = among_from targets pairs target back in
-        record { source = rest.source; there = or_right (same_pair rest.source one) (is_in pairs rest.source) rest.there; among = rest.among })
+          record { source = rest.source; there = or_right (same_pair rest.source one) (is_in pairs rest.source) rest.there; among = rest.among })
     ]
 
 -- the one reference to a page names its marked pair
@@ -83,8 +81,8 @@ climb graph lost met page target sourced order named one good pair there at =
     elim (among_split graph.roots (flat_map graph.targets met) target among) [
       | inl root ↦ reached_root graph pair held (ap (is_named graph.roots) (sym is) ∙ among_named graph.roots target root)
       | inr more ↦ (let from = among_from graph.targets met target more in
-        let before = good from.source.page (among_all (λ t. source_page t.source ≡ Some from.source.page) (graph.targets from.source) target (sourced.pairs from.source) from.among) from.source from.there refl in
-        reached_next graph from.source pair before (ap (is_named (graph.targets from.source)) (sym is) ∙ among_named (graph.targets from.source) target from.among) held)
+          let before = good from.source.page (among_all (λ t. source_page t.source ≡ Some from.source.page) (graph.targets from.source) target (sourced.pairs from.source) from.among) from.source from.there refl in
+          reached_next graph from.source pair before (ap (is_named (graph.targets from.source)) (sym is) ∙ among_named (graph.targets from.source) target from.among) held)
     ]
 
 -- ---- all marked pairs
@@ -102,10 +100,10 @@ named_still graph met pair before held named =
     elim (or_cases (is_named graph.roots pair) (is_named (flat_map graph.targets met) pair) (sym (named_append graph.roots (flat_map graph.targets met) pair) ∙ named)) [
       | inl root ↦ reached_root graph pair held root
       | inr more ↦ (let from = named_from graph.targets met pair more in
-        elim (before from.source from.there) [
-          | inl none ↦ absurd (names_some graph from.source pair none from.names)
-          | inr there ↦ reached_next graph from.source pair there from.names held
-        ])
+          elim (before from.source from.there) [
+            | inl none ↦ absurd (names_some graph from.source pair none from.names)
+            | inr there ↦ reached_next graph from.source pair there from.names held
+          ])
     ]
 
 each_still : (graph : Graph) (lost met : List Pair) → IsOrder graph lost met → ((pair : Pair) → is_in met pair ≡ true → is_in lost pair ≡ true → EndsOrReached graph pair)

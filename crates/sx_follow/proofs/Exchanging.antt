@@ -4,14 +4,13 @@ use Rattle.std.proofs.Common.{◌≡◌, ◌&&◌, ◌||◌, Bool, true, false, 
 use Rattle.std.specs.List.{flat_map}
 use Rattle.std.specs.List.Sorted.{IsPermutation}
 use Rattle.std.proofs.lemmas.Bool.{or_left, or_right, or_cases, and_from, false≢true}
-use Rattle.std.proofs.lemmas.List.Sorted.{IsPermutation-refl, IsPermutation-append_left, IsPermutation-append_right, IsPermutation-append_comm, IsPermutation-trans}
+use Rattle.std.proofs.lemmas.List.Sorted.{IsPermutation-append_left, IsPermutation-append_right, IsPermutation-append_comm, IsPermutation-trans}
 use Rattle.sx_closure.specs.declared.pair.Pair.{Pair}
 use Rattle.sx_closure.specs.declared.pair.Target.{Target}
 use Rattle.sx_closure.specs.Graph.{same_pair, is_in, is_named, Graph, is_held}
 use Rattle.sx_closure.proofs.Pairs.{same_is, same_self, same_answer, is_in_filter, apart_filter, same_pieces}
 use Rattle.sx_closure.proofs.Reaching.{named_append, named_from, named_to}
 use Rattle.sx_closure.proofs.Standing.{pieces_same}
-use Rattle.sx_follow.proofs.Following.{order_apart}
 use Rattle.sx_closure.proofs.Pairs.{Apart}
 use Rattle.sx_closure.proofs.Walks.{seen_by}
 use Rattle.sx_follow.specs.Orders.{IsOrder}
@@ -37,9 +36,9 @@ exchange_named one two lost met pair exchange named =
     elim (or_cases (is_named one.roots pair) (is_named (flat_map one.targets met) pair) (sym (named_append one.roots (flat_map one.targets met) pair) ∙ named)) [
       | inl root ↦ either (is_in lost pair) roots (is_named (seen_by two met) pair) (λ there. whole ∙ or_left roots pieces there) (exchange.roots pair root)
       | inr more ↦ (let from = named_from one.targets met pair more in
-        either (is_in lost pair) (is_named (two.targets from.source) pair) (is_named (seen_by two met) pair)
-        (λ there. whole ∙ or_right roots pieces (named_to two.targets met from.source pair from.there there))
-        (exchange.targets from.source pair from.there from.names))
+          either (is_in lost pair) (is_named (two.targets from.source) pair) (is_named (seen_by two met) pair)
+          (λ there. whole ∙ or_right roots pieces (named_to two.targets met from.source pair from.there there))
+          (exchange.targets from.source pair from.there from.names))
     ]
 
 exchange_tail : (one two : Graph) (lost met : List Pair) (pair : Pair) → IsExchange one two lost (pair ∷ met) → IsExchange one two lost met
@@ -110,10 +109,10 @@ rest_named graph lost met pair other gone named =
     elim (or_cases roots (is_named (flat_map graph.targets met) other) (sym (named_append graph.roots (flat_map graph.targets met) other) ∙ named)) [
       | inl root ↦ or_right (is_in lost other) all (whole ∙ or_left roots pieces root)
       | inr more ↦ (let from = named_from graph.targets met other more in
-        elim (one_or_rest met pair from.source from.there) [
-          | inl same ↦ or_left (is_in lost other) all (gone other (ap (λ p. is_named (graph.targets p) other) (sym (same_is from.source pair same)) ∙ from.names))
-          | inr rest ↦ or_right (is_in lost other) all (whole ∙ or_right roots pieces (named_to graph.targets (without pair met) from.source other rest from.names))
-        ])
+          elim (one_or_rest met pair from.source from.there) [
+            | inl same ↦ or_left (is_in lost other) all (gone other (ap (λ p. is_named (graph.targets p) other) (sym (same_is from.source pair same)) ∙ from.names))
+            | inr rest ↦ or_right (is_in lost other) all (whole ∙ or_right roots pieces (named_to graph.targets (without pair met) from.source other rest from.names))
+          ])
     ]
 
 fall_case : (graph : Graph) (before lost : List Pair) (pair one : Pair) (met : List Pair) (b : Bool) → same_pair pair one ≡ b

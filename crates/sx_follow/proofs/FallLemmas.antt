@@ -1,19 +1,17 @@
 -- What falls with one target taken back, and with the names of one pair.
-use Rattle.std.proofs.Common.{◌≡◌, ℕ, zero, suc, ◌+◌, ◌-◌, ◌*◌, ◌<◌, ◌≤◌, ◌==◌, ◌&&◌, ◌||◌, Bool, true, false, not, cond, List, [], ◌∷◌, ◌++◌, length, length-append, append_assoc, append-nil, map, fold, get_or, drop, Option, Some, None, is_some, ◌⊎◌, inl, inr, refl, sym, ap, subst, ◌∙◌, arith}
+use Rattle.std.proofs.Common.{◌≡◌, ℕ, zero, suc, ◌+◌, ◌*◌, ◌<◌, ◌≤◌, ◌==◌, ◌&&◌, ◌||◌, Bool, true, false, not, cond, List, [], ◌∷◌, ◌++◌, length, length-append, append_assoc, append-nil, map, fold, get_or, drop, Option, Some, None, is_some, ◌⊎◌, inl, inr, refl, sym, ap, subst, ◌∙◌, arith}
 use Rattle.std.specs.List.{flat_map}
 use Rattle.std.specs.List.Sorted.{IsPermutation}
-use Rattle.std.proofs.lemmas.Bool.{and_parts, and_from, or_left, or_right, or_cases, or_parts, false≢true, false_from_ne_true, eqb-true, eqb-false, eq-eqb}
+use Rattle.std.proofs.lemmas.Bool.{and_from, or_left, or_right, or_cases, false≢true, false_from_ne_true, eqb-true, eqb-false, eq-eqb}
 use Rattle.std.proofs.lemmas.List.{drop-append-le, drop_all}
 use Rattle.std.proofs.lemmas.List.Concat.{flat_map-append}
-use Rattle.std.proofs.lemmas.List.Sorted.{IsPermutation-refl, IsPermutation-sym, IsPermutation-append_right, list_any-IsPermutation}
+use Rattle.std.proofs.lemmas.List.Sorted.{IsPermutation-refl, IsPermutation-append_right, list_any-IsPermutation}
 use Rattle.sx_closure.specs.declared.pair.Pair.{Pair}
 use Rattle.sx_closure.specs.declared.pair.Target.{Target}
 use Rattle.sx_closure.specs.Graph.{role_number, same_pair, is_in, is_named, Graph, IsGraph, is_held, pairs_of}
-use Rattle.sx_closure.proofs.Pairs.{Apart}
 use Rattle.sx_closure.proofs.Walks.{seen_by}
-use Rattle.sx_follow.specs.Orders.{IsOrder}
 use Rattle.sx_closure.specs.Tallying.{rank_of}
-use Rattle.sx_follow.specs.Sums.{of_role, weighed, total, nothing, many_of, Sums, taken_at, taken, AreSums}
+use Rattle.sx_follow.specs.Sums.{of_role, weighed, total, nothing, many_of, Sums, taken_at, taken}
 use Rattle.sx_follow.specs.Rising.{has_at, has_many}
 use Rattle.sx_follow.specs.Falling.{Fall, fell, fell_all, IsFalling}
 use Rattle.sx_closure.proofs.Pairs.{or_none, same_is, same_self, same_answer, is_in_append, is_in_filter, apart_push, few}
@@ -24,7 +22,7 @@ use Rattle.sx_closure.proofs.Walks.{Begins, begins_same, begins_trans}
 use Rattle.sx_follow.proofs.Summing.{total_more, some_named}
 use Rattle.sx_follow.proofs.SumLemmas.{sums_less, sums_same}
 use Rattle.sx_follow.proofs.Following.{order_apart}
-use Rattle.sx_follow.proofs.Exchanging.{without, none_left, not_in_rest, in_rest, one_or_rest, order_fall, seen_without}
+use Rattle.sx_follow.proofs.Exchanging.{without, none_left, not_in_rest, order_fall, seen_without}
 use Rattle.sx_follow.proofs.RiseLemmas.{many_at, none_named, same_held}
 
 held_kept : (all : Sums) (target : Target) (o : Option ℕ) → (taken_at all target o).held ≡ all.held
@@ -129,7 +127,7 @@ same_turned one other =
 fall_new : (graph : Graph) (rest : List Target) (state : Fall) (target : Target) → IsGraph graph → (is : IsFalling graph (target ∷ rest) state)
     → is_named (rest ++ seen_by graph is.met) target.pair ≡ false → is_held graph.held target.pair.page ≡ true
     → IsFalling graph (rest ++ graph.targets target.pair)
-      (record { sums = taken state.sums target; lost = state.lost ++ target.pair ∷ []; todo = state.todo ++ target.pair ∷ [] })
+    (record { sums = taken state.sums target; lost = state.lost ++ target.pair ∷ []; todo = state.todo ++ target.pair ∷ [] })
 fall_new graph rest state target good is none held =
     let pair = target.pair in
     let own = graph.targets pair in
@@ -154,7 +152,7 @@ fall_new graph rest state target good is none held =
       lost = λ other in_gone. ap (λ n. is_in (state.lost ++ pair ∷ []) other || n) (named_append rest own other)
           ∙ elim (or_cases (is_in is.gone other) (is_in (pairs_in own) other) (sym (is_in_append is.gone (pairs_in own) other) ∙ in_gone)) [
             | inl old ↦ or_named (is_in (state.lost ++ pair ∷ []) other) (is_named rest other) (is_named own other)
-              (lost_push state.lost pair other (is_named rest other) (is.lost other old))
+                (lost_push state.lost pair other (is_named rest other) (is.lost other old))
             | inr named ↦ or_last (is_in (state.lost ++ pair ∷ []) other) (is_named rest other) (is_named own other) (sym (in_pairs_of own other) ∙ named)
           ];
       marked = λ other. is_in_filter (λ p. not (same_pair pair p)) is.met other
@@ -188,7 +186,7 @@ count_one pair target seen is =
 many_case : (graph : Graph) (rest : List Target) (state : Fall) (target : Target) (many : ℕ) (b : Bool) → IsGraph graph → (is : IsFalling graph (target ∷ rest) state)
     → is_held graph.held target.pair.page ≡ true → many ≡ total (of_role target.pair.role) target.pair.page (target ∷ (rest ++ seen_by graph is.met)) → (many == 1) ≡ b
     → IsFalling graph (with_own b rest (graph.targets target.pair))
-      (record { sums = taken state.sums target; lost = state.lost ++ target.pair ∷ []; todo = cond b (state.todo ++ target.pair ∷ []) state.todo })
+    (record { sums = taken state.sums target; lost = state.lost ++ target.pair ∷ []; todo = cond b (state.todo ++ target.pair ∷ []) state.todo })
 many_case graph rest state target many true good is held count sure =
     let one = eqb-true many 1 sure in
     let seen = rest ++ seen_by graph is.met in
@@ -203,7 +201,7 @@ many_case graph rest state target many false good is held count sure =
 rank_case : (graph : Graph) (rest : List Target) (state : Fall) (target : Target) (o : Option ℕ) → IsGraph graph → IsFalling graph (target ∷ rest) state
     → rank_of state.sums.held target.pair.page ≡ o
     → IsFalling graph (with_own (has_at 1 state.sums target.pair o) rest (graph.targets target.pair))
-      (record { sums = taken state.sums target; lost = state.lost ++ target.pair ∷ []; todo = cond (has_at 1 state.sums target.pair o) (state.todo ++ target.pair ∷ []) state.todo })
+    (record { sums = taken state.sums target; lost = state.lost ++ target.pair ∷ []; todo = cond (has_at 1 state.sums target.pair o) (state.todo ++ target.pair ∷ []) state.todo })
 rank_case graph rest state target None good is ranked =
     let missing : is_held graph.held target.pair.page ≡ false =
     ap (λ held. is_held held target.pair.page) (sym is.held_is) ∙ sym (rank_is_some state.sums.held target.pair.page) ∙ ap is_some ranked in

@@ -1,25 +1,24 @@
 -- From the sums of one graph to those of another: what rises, what falls, and that what is left is reached.
-use Rattle.std.proofs.Common.{◌≡◌, ℕ, zero, suc, ◌+◌, ◌*◌, ◌<◌, ◌==◌, ◌&&◌, ◌||◌, Bool, true, false, not, cond, List, [], ◌∷◌, ◌++◌, length, append_assoc, append-nil, map, filter, fold, get_or, sum_by, Option, Some, None, IfSome, is_some, ◌⊎◌, inl, inr, refl, sym, ap, subst, ◌∙◌, arith}
+use Rattle.std.proofs.Common.{◌≡◌, ℕ, zero, suc, ◌+◌, ◌*◌, ◌<◌, ◌==◌, ◌&&◌, ◌||◌, Bool, true, false, not, cond, List, [], ◌∷◌, ◌++◌, length, append-nil, map, filter, get_or, sum_by, Option, Some, None, IfSome, is_some, inl, inr, refl, sym, ap, subst, ◌∙◌, arith}
 use Rattle.std.specs.List.{flat_map}
 use Rattle.std.specs.List.Sorted.{IsPermutation}
 use Rattle.std.proofs.lemmas.Bool.{and_parts, and_from, or_left, or_right, or_cases, or_from, false≢true, eqb-true}
 use Rattle.std.proofs.lemmas.List.Concat.{flat_map-append}
-use Rattle.std.proofs.lemmas.List.Sorted.{IsPermutation-refl, IsPermutation-sym, IsPermutation-trans, IsPermutation-append_right, list_any-IsPermutation}
+use Rattle.std.proofs.lemmas.List.Sorted.{IsPermutation-trans, IsPermutation-append_right, list_any-IsPermutation}
 use Rattle.sx_base.specs.declared.role.Role.{Role}
 use Rattle.sx_base.specs.declared.role.Role.TheVariants.{Node, Overflow, Trunk, FreeLeaf, PointerMap}
 use Rattle.sx_closure.specs.declared.pair.Pair.{Pair}
 use Rattle.sx_closure.specs.declared.pair.Source.{Source}
 use Rattle.sx_closure.specs.declared.pair.Source.TheVariants.{Root, Cell, Page}
 use Rattle.sx_closure.specs.declared.pair.Target.{Target}
-use Rattle.sx_follow.specs.declared.sums.Sum.{Sum}
-use Rattle.sx_closure.specs.Graph.{role_number, same_pair, is_in, is_named, Graph, IsGraph, is_held, reach, reached, to_page, only}
+use Rattle.sx_closure.specs.Graph.{same_pair, is_in, is_named, Graph, IsGraph, is_held, reach, reached, to_page, only}
 use Rattle.sx_closure.proofs.Pairs.{Apart}
 use Rattle.sx_closure.proofs.Walks.{seen_by}
 use Rattle.sx_follow.specs.Orders.{IsOrder}
 use Rattle.sx_closure.specs.Tallying.{rank_of}
 use Rattle.sx_follow.specs.Sums.{of_role, kind_of, page_in, weighed, total, summed, nothing, many_of, Sums, AreSums}
 use Rattle.sx_follow.specs.Rising.{Rise, rose_all}
-use Rattle.sx_follow.specs.Risen.{IsRising, CanRise, HasRisen}
+use Rattle.sx_follow.specs.Risen.{IsRising, HasRisen}
 use Rattle.sx_follow.specs.Falling.{Fall, fell_all, IsFalling}
 use Rattle.sx_follow.specs.Climbing.{source_page, IsSourced, all_of, way_of, way_by, way_at, HasWay, marked_by, is_marked_in, AllHaveWays}
 use Rattle.sx_follow.specs.Climbing.HasWay.{from_root, from_page}
@@ -28,7 +27,7 @@ use Rattle.sx_closure.proofs.Pairs.{or_none, same_is, same_answer, is_in_append,
 use Rattle.sx_closure.proofs.Ranks.{differ}
 use Rattle.sx_closure.proofs.Tallies.{at_rank, rank_is_some}
 use Rattle.sx_closure.proofs.Reaching.{named_append, named_from, named_to, reach_none, reach_one, reach_held, reach_stays, apart_reach}
-use Rattle.sx_follow.proofs.Summing.{total_more, total_of, one_each, IsOne, one_of_long, ones_long, one_sum, named_some}
+use Rattle.sx_follow.proofs.Summing.{total_more, total_of, one_each, one_of_long, ones_long, one_sum, named_some}
 use Rattle.sx_follow.proofs.SumLemmas.{sums_none, sums_same}
 use Rattle.sx_follow.proofs.Following.{IsReached, IsClosed, order_apart, order_held, named_reached, marked_are, reach_enough, order_is_reach}
 use Rattle.sx_follow.proofs.Climbing.{AllNamed, IsGood, climb, still_reached}
@@ -40,7 +39,7 @@ use Rattle.sx_follow.proofs.FallLemmas.{pairs_in, in_pairs_of, fall_all}
 
 roles_case : (role : Role) (page : ℕ) (target : Target) (b : Bool) → target.pair.role ≡ role → (target.pair.page == page) ≡ b
     → weighed (of_role Node) page target + (weighed (of_role Overflow) page target + (weighed (of_role Trunk) page target
-      + (weighed (of_role FreeLeaf) page target + weighed (of_role PointerMap) page target))) ≡ weighed one_each page target
+    + (weighed (of_role FreeLeaf) page target + weighed (of_role PointerMap) page target))) ≡ weighed one_each page target
 roles_case Node page target true role at = rw (role, at) refl
 roles_case Node page target false role at = rw (role, at) refl
 roles_case Overflow page target true role at = rw (role, at) refl
@@ -52,9 +51,9 @@ roles_case FreeLeaf page target false role at = rw (role, at) refl
 roles_case PointerMap page target true role at = rw (role, at) refl
 roles_case PointerMap page target false role at = rw (role, at) refl
 
-all_roles : (page : ℕ) (seen : List Target)
+pub all_roles : (page : ℕ) (seen : List Target)
     → total (of_role Node) page seen + (total (of_role Overflow) page seen + (total (of_role Trunk) page seen + (total (of_role FreeLeaf) page seen + total (of_role PointerMap) page seen)))
-      ≡ total one_each page seen
+    ≡ total one_each page seen
 all_roles page [] = refl
 all_roles page (target ∷ seen) =
     let rest = all_roles page seen in
@@ -162,9 +161,9 @@ next_named graph rounds met pair same none there =
     elim (or_cases before named (and_parts (is_held graph.held pair.page) (before || named) (sym (reach_one graph rounds pair) ∙ there)).1) [
       | inl old ↦ absurd (false≢true (sym none ∙ same pair ∙ old))
       | inr new ↦ (let from = named_from graph.targets (reach graph rounds) pair new in
-        named_append graph.roots (flat_map graph.targets met) pair
-        ∙ or_right (is_named graph.roots pair) (is_named (flat_map graph.targets met) pair)
-        (named_to graph.targets met from.source pair (same from.source ∙ from.there) from.names))
+          named_append graph.roots (flat_map graph.targets met) pair
+          ∙ or_right (is_named graph.roots pair) (is_named (flat_map graph.targets met) pair)
+          (named_to graph.targets met from.source pair (same from.source ∙ from.there) from.names))
     ]
 
 member_case : (graph : Graph) (rounds : ℕ) (met : List Pair) (pair : Pair) (b : Bool) → is_in met pair ≡ b → is_in (reach graph (suc rounds)) pair ≡ true
@@ -307,9 +306,10 @@ come_rising graph all come gone good can =
 -- what rose, what was reached, and what goes
 both_apart : (some others : List Pair) → Apart some → Apart others → ((pair : Pair) → is_in some pair ≡ true → is_in others pair ≡ false) → Apart (some ++ others)
 both_apart [] others apart differ none = differ
-both_apart (one ∷ some) others apart differ none =
-    (is_in_append some others one ∙ or_from (is_in some one) (is_in others one) apart.0 (none one (is_in_head one some)),
-    both_apart some others apart.1 differ (λ pair there. none pair (or_right (same_pair pair one) (is_in some pair) there)))
+both_apart (one ∷ some) others apart differ none = (
+  is_in_append some others one ∙ or_from (is_in some one) (is_in others one) apart.0 (none one (is_in_head one some)),
+  both_apart some others apart.1 differ (λ pair there. none pair (or_right (same_pair pair one) (is_in some pair) there)),
+)
 
 turned : (graph : Graph) (todo base met : List Pair) (gone : List Target) → Apart (todo ++ base) → Apart met → ((pair : Pair) → is_in (todo ++ base) pair ≡ is_in met pair)
     → IsPermutation (flat_map graph.targets todo ++ (gone ++ seen_by graph base)) (gone ++ seen_by graph met)

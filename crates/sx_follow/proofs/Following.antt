@@ -1,17 +1,14 @@
 -- How the reached pairs are followed from one graph to another, over lists alone: a list of pairs in an order in which each
 -- is named by a root or by a pair behind it, but for those that have lost a name.
-use Rattle.std.proofs.Common.{◌≡◌, ℕ, zero, suc, ◌+◌, ◌-◌, ◌*◌, ◌<◌, ◌≤◌, ◌&&◌, ◌||◌, Bool, true, false, not, List, [], ◌∷◌, ◌++◌, length, filter, Option, Some, None, ◌⊎◌, inl, inr, refl, sym, ap, subst, ◌∙◌, arith}
+use Rattle.std.proofs.Common.{◌≡◌, ℕ, zero, suc, ◌+◌, ◌-◌, ◌*◌, ◌<◌, ◌≤◌, ◌||◌, Bool, true, false, not, List, [], ◌∷◌, length, filter, ◌⊎◌, inl, inr, refl, sym, ap, subst, ◌∙◌, arith}
 use Rattle.std.specs.List.{flat_map}
-use Rattle.std.proofs.lemmas.Bool.{or_left, or_right, or_cases, or_parts, and_parts, and_from, false≢true, false_from_ne_true}
-use Rattle.sx_base.specs.declared.role.Role.{Role}
+use Rattle.std.proofs.lemmas.Bool.{or_right, or_cases, and_parts, and_from, false≢true, false_from_ne_true}
 use Rattle.sx_closure.specs.declared.pair.Pair.{Pair}
-use Rattle.sx_closure.specs.declared.pair.Source.{Source}
-use Rattle.sx_closure.specs.declared.pair.Source.TheVariants.{Root, Cell, Page}
-use Rattle.sx_closure.specs.declared.pair.Target.{Target}
-use Rattle.sx_closure.specs.Graph.{role_number, same_pair, is_in, is_named, Graph, IsGraph, is_held, reach, reached, to_page, only}
-use Rattle.sx_closure.proofs.Pairs.{same_is, same_self, same_answer, is_in_head, is_in_filter, apart_filter, few}
+use Rattle.sx_closure.specs.declared.pair.Source.TheVariants.{Root}
+use Rattle.sx_closure.specs.Graph.{role_number, same_pair, is_in, is_named, Graph, IsGraph, is_held, reach, reached}
+use Rattle.sx_closure.proofs.Pairs.{same_is, same_answer, is_in_head, is_in_filter, apart_filter, few}
 use Rattle.sx_closure.proofs.Ranks.{differ}
-use Rattle.sx_closure.proofs.Reaching.{named_append, named_from, named_to, four_of, in_four, length-four, reach_none, reach_one, reach_held, reach_stays, reach_more, reach_next, reach_within, apart_reach}
+use Rattle.sx_closure.proofs.Reaching.{named_append, named_from, four_of, in_four, length-four, reach_none, reach_one, reach_held, reach_stays, reach_more, reach_next, reach_within, apart_reach}
 use Rattle.sx_closure.proofs.Standing.{reach_named}
 use Rattle.sx_closure.proofs.Pairs.{Apart}
 use Rattle.sx_closure.proofs.Walks.{seen_by}

@@ -6,3 +6,4 @@ pub mod SumLemmas
 pub mod RiseLemmas
 pub mod FallLemmas
 pub mod FollowLemmas
+pub mod References

@@ -1,29 +1,27 @@
 -- What rises with one target more, and with the names of one pair more.
-use Rattle.std.proofs.Common.{◌≡◌, ℕ, zero, suc, ◌+◌, ◌-◌, ◌*◌, ◌<◌, ◌≤◌, ◌==◌, ◌&&◌, ◌||◌, Bool, true, false, cond, List, [], ◌∷◌, ◌++◌, length, length-append, append_assoc, fold, get_or, take, take_all, Option, Some, None, is_some, ◌⊎◌, inl, inr, refl, sym, ap, subst, ◌∙◌, arith}
+use Rattle.std.proofs.Common.{◌≡◌, ℕ, ◌+◌, ◌*◌, ◌<◌, ◌≤◌, ◌==◌, ◌&&◌, ◌||◌, Bool, true, false, cond, List, [], ◌∷◌, ◌++◌, length, length-append, append_assoc, fold, get_or, take, take_all, Option, Some, None, is_some, ◌⊎◌, inl, inr, refl, sym, ap, subst, ◌∙◌, arith}
 use Rattle.std.specs.List.{flat_map}
 use Rattle.std.specs.List.Sorted.{IsPermutation}
-use Rattle.std.proofs.lemmas.Bool.{and_parts, and_from, or_left, or_right, or_cases, false≢true, or_parts, false_from_ne_true, eqb-true, eqb-false}
+use Rattle.std.proofs.lemmas.Bool.{and_parts, or_left, or_right, or_cases, false≢true, or_parts, false_from_ne_true, eqb-true, eqb-false}
 use Rattle.std.proofs.lemmas.List.{take-append-le, take_more, flat_map_more}
-use Rattle.std.proofs.lemmas.List.Sorted.{IsPermutation-refl, IsPermutation-sym, IsPermutation-append_left, IsPermutation-append_comm, IsPermutation-trans, list_any-IsPermutation}
+use Rattle.std.proofs.lemmas.List.Sorted.{IsPermutation-append_left, IsPermutation-append_comm, list_any-IsPermutation}
 use Rattle.sx_base.specs.declared.role.Role.{Role}
 use Rattle.sx_base.specs.declared.role.Role.TheVariants.{Node, Overflow, Trunk, FreeLeaf, PointerMap}
 use Rattle.sx_closure.specs.declared.pair.Pair.{Pair}
 use Rattle.sx_closure.specs.declared.pair.Target.{Target}
-use Rattle.sx_closure.specs.Graph.{role_number, same_pair, is_in, is_named, Graph, IsGraph, is_held, pairs_of}
+use Rattle.sx_closure.specs.Graph.{same_pair, is_in, is_named, Graph, IsGraph, is_held, pairs_of}
 use Rattle.sx_closure.specs.Tallying.{rank_of}
 use Rattle.sx_follow.specs.Sums.{of_role, total, summed, nothing, many_of, Sums, added_at, added, AreSums}
 use Rattle.sx_follow.specs.Rising.{has_at, has_many, Rise, rose, rose_all}
-use Rattle.sx_follow.specs.Risen.{IsRising, CanRise, HasRisen}
-use Rattle.sx_closure.proofs.Pairs.{or_none, or_assoc, same_is, same_self, same_answer, is_in_append, apart_push, few}
+use Rattle.sx_follow.specs.Risen.{IsRising}
+use Rattle.sx_closure.proofs.Pairs.{or_none, same_is, same_self, is_in_append, apart_push, few}
 use Rattle.sx_closure.proofs.Ranks.{differ}
 use Rattle.sx_closure.proofs.Tallies.{Differ, at_rank, rank_is_some}
 use Rattle.sx_closure.proofs.Reaching.{in_pairs, length-pairs, named_append, named_from, named_to}
 use Rattle.sx_closure.proofs.Walks.{Begins, begins_same, begins_trans, is_in_at, is_in_take}
 use Rattle.sx_follow.proofs.Summing.{named_some, some_named}
 use Rattle.sx_follow.proofs.SumLemmas.{sums_more, sums_same}
-use Rattle.sx_closure.proofs.Pairs.{Apart}
 use Rattle.sx_closure.proofs.Walks.{seen_by}
-use Rattle.sx_follow.specs.Orders.{IsOrder}
 
 -- ---- how many references name a pair, as the sums say
 
@@ -75,7 +73,7 @@ same_named graph some others pair within named =
     ∙ elim (or_cases roots (is_named (flat_map graph.targets some) pair) (sym (named_append graph.roots (flat_map graph.targets some) pair) ∙ named)) [
       | inl root ↦ or_left roots pieces root
       | inr more ↦ (let from = named_from graph.targets some pair more in
-        or_right roots pieces (named_to graph.targets others from.source pair (within from.source from.there) from.names))
+          or_right roots pieces (named_to graph.targets others from.source pair (within from.source from.there) from.names))
     ]
 
 pub named_in_more : (graph : Graph) (todo more base : List Pair) (pair : Pair) → IsNamedIn graph todo base pair → IsNamedIn graph (todo ++ more) base pair
@@ -180,7 +178,7 @@ some_case graph lost base seen state target many false good is named held count 
 rank_case : (graph : Graph) (lost base : List Pair) (seen : List Target) (state : Rise) (target : Target) (o : Option ℕ) → IsGraph graph → (is : IsRising graph lost base seen state)
     → IsNamedIn graph state.todo base target.pair → rank_of state.sums.held target.pair.page ≡ o
     → IsRising graph lost base (target ∷ seen)
-      (record { sums = added state.sums target; todo = cond (has_at 0 state.sums target.pair o) (state.todo ++ target.pair ∷ []) state.todo })
+    (record { sums = added state.sums target; todo = cond (has_at 0 state.sums target.pair o) (state.todo ++ target.pair ∷ []) state.todo })
 rank_case graph lost base seen state target None good is named ranked =
     let missing : is_held graph.held target.pair.page ≡ false =
     ap (λ held. is_held held target.pair.page) (sym is.held_is) ∙ sym (rank_is_some state.sums.held target.pair.page) ∙ ap is_some ranked in

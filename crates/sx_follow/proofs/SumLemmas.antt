@@ -1,20 +1,18 @@
 -- The sums of all held pages, with one target more and one taken back.
-use Rattle.std.proofs.Common.{◌≡◌, ℕ, ◌+◌, ◌-◌, ◌<◌, ◌==◌, ◌&&◌, Bool, true, false, cond, List, [], ◌∷◌, map, get_or, set, sum_by, Option, Some, None, is_some, refl, sym, ap, subst, ◌∙◌, arith}
+use Rattle.std.proofs.Common.{◌≡◌, ℕ, ◌+◌, ◌-◌, ◌==◌, Bool, true, false, cond, List, [], ◌∷◌, map, get_or, set, Option, Some, None, is_some, refl, sym, ap, ◌∙◌, arith}
 use Rattle.std.specs.List.Sorted.{IsPermutation}
-use Rattle.std.proofs.lemmas.Bool.{eq-eqb, false≢true}
+use Rattle.std.proofs.lemmas.Bool.{eq-eqb}
 use Rattle.std.proofs.lemmas.List.Sums.{sum_by-cons}
 use Rattle.std.proofs.lemmas.List.Sorted.{sum_by-IsPermutation, sum_by_popped}
-use Rattle.sx_base.specs.declared.role.Role.{Role}
 use Rattle.sx_base.specs.declared.role.Role.TheVariants.{Node, Overflow, Trunk, FreeLeaf, PointerMap}
-use Rattle.sx_closure.specs.declared.pair.Pair.{Pair}
 use Rattle.sx_closure.specs.declared.pair.Target.{Target}
 use Rattle.sx_follow.specs.declared.sums.Sum.{Sum}
-use Rattle.sx_closure.specs.Graph.{is_named, is_held}
+use Rattle.sx_closure.specs.Graph.{is_held}
 use Rattle.sx_closure.specs.Tallying.{rank_of}
-use Rattle.sx_follow.specs.Sums.{of_role, kind_of, page_in, cell_in, weighed, total, summed, plus, minus, nothing, many_of, Sums, is_dead, sum_at, added_at, added, taken_at, taken, AreSums}
+use Rattle.sx_follow.specs.Sums.{of_role, kind_of, page_in, cell_in, weighed, total, summed, plus, minus, nothing, Sums, is_dead, added_at, added, taken_at, taken, AreSums}
 use Rattle.sx_closure.proofs.Pairs.{flipped}
 use Rattle.sx_closure.proofs.Tallies.{Differ, map_other, set_at_rank, at_rank, rank_is_some}
-use Rattle.sx_follow.proofs.Summing.{total_more, total_less, total_same, named_some, some_named}
+use Rattle.sx_follow.proofs.Summing.{total_more, total_less, total_same}
 
 -- ---- the sums of one page
 
@@ -45,7 +43,7 @@ left_at weight page target seen rest perm other =
     omega (arith, total_less weight page target seen rest perm, it)
 
 -- sums with equal parts
-same_sums : (one other : Sum) → one.node ≡ other.node → one.overflow ≡ other.overflow → one.trunk ≡ other.trunk → one.free_leaf ≡ other.free_leaf
+pub same_sums : (one other : Sum) → one.node ≡ other.node → one.overflow ≡ other.overflow → one.trunk ≡ other.trunk → one.free_leaf ≡ other.free_leaf
     → one.pointer_map ≡ other.pointer_map → one.kind ≡ other.kind → one.page ≡ other.page → one.cell ≡ other.cell → one.rest ≡ other.rest → one ≡ other
 same_sums one other node overflow trunk free_leaf pointer_map kind page cell rest =
     ap (λ n. record { node = n; overflow = one.overflow; trunk = one.trunk; free_leaf = one.free_leaf; pointer_map = one.pointer_map; kind = one.kind; page = one.page; cell = one.cell; rest = one.rest }) node

@@ -1,17 +1,15 @@
 -- What is kept of the references to a page as sums over all counted targets, in whatever order: each can be added and taken
 -- back, and where there is one reference the sums are that one's.
-use Rattle.std.proofs.Common.{◌≡◌, ℕ, zero, suc, ◌+◌, ◌-◌, ◌*◌, ◌<◌, ◌≤◌, ◌==◌, ◌&&◌, ◌||◌, Bool, true, false, not, cond, List, [], ◌∷◌, ◌++◌, length, filter, map, replicate, sum_by, Option, Some, None, refl, sym, ap, ◌∙◌, arith}
+use Rattle.std.proofs.Common.{◌≡◌, ℕ, ◌+◌, ◌-◌, ◌*◌, ◌<◌, ◌==◌, ◌&&◌, ◌||◌, Bool, true, false, not, cond, List, [], ◌∷◌, length, filter, map, replicate, sum_by, Some, refl, sym, ap, ◌∙◌, arith}
 use Rattle.std.specs.List.Sorted.{IsPermutation}
-use Rattle.std.proofs.lemmas.Bool.{and_parts, or_cases, or_left, or_right, false≢true}
+use Rattle.std.proofs.lemmas.Bool.{false≢true}
 use Rattle.std.proofs.lemmas.List.Sums.{sum_by-cons}
 use Rattle.std.proofs.lemmas.List.Sorted.{sum_by-IsPermutation, sum_by_popped, length_permutation}
-use Rattle.sx_base.specs.declared.role.Role.{Role}
 use Rattle.sx_closure.specs.declared.pair.Pair.{Pair}
 use Rattle.sx_closure.specs.declared.pair.Target.{Target}
 use Rattle.sx_closure.specs.Graph.{role_number, same_pair, is_in, is_named, Graph, IsGraph, is_held, is_reference, reached, all_targets, to_page, references_to, only, dead_links}
 use Rattle.sx_closure.specs.Chains.{one_reference}
 use Rattle.sx_follow.specs.Sums.{of_role, weighed, total, is_dead, nothing}
-use Rattle.sx_follow.specs.declared.sums.Sum.{Sum}
 use Rattle.sx_closure.proofs.Pairs.{flipped}
 use Rattle.sx_closure.proofs.Ranks.{differ}
 use Rattle.sx_closure.proofs.Tallies.{same_each}

@@ -1,10 +1,9 @@
 -- Ways of single references from a root to a page, as the sums tell them.
-use Rattle.std.specs.Prelude.{◌≡◌, ℕ, zero, suc, ◌+◌, ◌==◌, not, Bool, true, false, if◌then◌else◌, List, slice_index_or, Option, Some, None}
+use Rattle.std.specs.Prelude.{◌≡◌, ℕ, ◌+◌, ◌==◌, not, Bool, true, false, if◌then◌else◌, List, slice_index_or, Option, Some, None}
 use Rattle.std.specs.List.{All}
 use Rattle.sx_closure.specs.declared.pair.Pair.{Pair}
 use Rattle.sx_closure.specs.declared.pair.Source.{Source}
 use Rattle.sx_closure.specs.declared.pair.Source.TheVariants.{Root, Cell, Page}
-use Rattle.sx_closure.specs.declared.pair.Target.{Target}
 use Rattle.sx_follow.specs.declared.sums.Sum.{Sum}
 use Rattle.sx_closure.specs.Graph.{is_in, Graph}
 use Rattle.sx_closure.specs.Tallying.{rank_of}

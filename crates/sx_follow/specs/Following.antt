@@ -1,12 +1,16 @@
 -- When the sums of one graph can be followed to another, and when they have been.
-use Rattle.std.specs.Prelude.{◌≡◌, ◌||◌, true, List, [], ◌++◌}
+use Rattle.std.specs.Prelude.{◌≡◌, ℕ, ◌||◌, true, List, [], ◌++◌, length, Some}
 use Rattle.std.specs.List.Sorted.{IsPermutation}
 use Rattle.sx_closure.specs.declared.pair.Pair.{Pair}
 use Rattle.sx_closure.specs.declared.pair.Target.{Target}
-use Rattle.sx_closure.specs.Graph.{is_in, is_named, Graph, IsGraph, reached}
+use Rattle.sx_closure.specs.Graph.{is_in, is_named, Graph, IsGraph, reached, references_to, dead_links}
+use Rattle.sx_closure.specs.Chains.{one_reference}
+use Rattle.sx_closure.specs.Tallying.{rank_of}
 use Rattle.sx_closure.proofs.Walks.{seen_by}
 use Rattle.sx_follow.specs.Orders.{IsOrder}
-use Rattle.sx_follow.specs.Sums.{Sums, AreSums}
+use Rattle.sx_follow.specs.declared.sums.Sum.{Sum}
+use Rattle.sx_follow.specs.Sums.{nothing, plus, Sums, sum_at, AreSums}
+use Rattle.sx_follow.specs.Climbing.{all_of}
 
 -- the sums are those over all targets of the graph: of the roots, and of the reached pairs, each asked once
 pub record HasFollowed (graph : Graph) (all : Sums) : Type 0 where
@@ -29,3 +33,13 @@ pub record CanFollow (graph : Graph) (all : Sums) (come gone : List Target) : Ty
       → (is_named gone pair || is_named (graph.targets source) pair) ≡ true
   pub names : (pair : Pair) → is_named come pair ≡ true → is_named (seen_by graph followed.met) pair ≡ true
   pub counted : IsPermutation (come ++ seen_by before followed.met) (gone ++ seen_by graph followed.met)
+
+-- the sums of a page, of nothing where it isn't held
+abbrev pub sum_of : Sums → ℕ → Sum
+sum_of all page = sum_at all (rank_of all.held page)
+
+-- the sums say of each page how many references it has, and of one with one they are its sums; and how many links are dead
+pub record AreReferences (graph : Graph) (all : Sums) : Type 0 where
+  pub counts : (page : ℕ) → all_of (sum_of all page) ≡ length (references_to graph page)
+  pub ones : (page : ℕ) (target : Target) → one_reference graph page ≡ Some target → sum_of all page ≡ plus nothing target
+  pub dead : all.dead ≡ length (dead_links graph)

@@ -1,8 +1,7 @@
 -- What is kept while pairs rise that weren't reached before: the sums, and the pairs in the order in which they rose.
-use Rattle.std.specs.Prelude.{ℕ, ◌==◌, Bool, true, false, if◌then◌else◌, List, [], ◌∷◌, ◌++◌, fold, slice_index_or, Option, Some, None}
+use Rattle.std.specs.Prelude.{ℕ, ◌==◌, Bool, false, if◌then◌else◌, List, [], ◌∷◌, ◌++◌, fold, slice_index_or, Option, Some, None}
 use Rattle.sx_closure.specs.declared.pair.Pair.{Pair}
 use Rattle.sx_closure.specs.declared.pair.Target.{Target}
-use Rattle.sx_closure.specs.Graph.{Graph}
 use Rattle.sx_closure.specs.Tallying.{rank_of}
 use Rattle.sx_follow.specs.Sums.{nothing, many_of, Sums, added}
 

@@ -1,6 +1,6 @@
 -- What is kept of the references to each held page as sums, so that each can be taken back: how many of each role, and the
 -- sums of their sources' kinds, pages and cells and of the bytes behind a cell. Where there is one, the sums are that one's.
-use Rattle.std.specs.Prelude.{◌≡◌, ℕ, ◌+◌, ◌-◌, ◌==◌, Bool, true, false, cond, if◌then◌else◌, List, [], ◌∷◌, map, sum_by, slice_index_or, slice_set, Option, Some, None}
+use Rattle.std.specs.Prelude.{◌≡◌, ℕ, ◌+◌, ◌-◌, ◌==◌, if◌then◌else◌, List, map, sum_by, slice_index_or, slice_set, Option, Some, None}
 use Rattle.sx_base.specs.declared.role.Role.{Role}
 use Rattle.sx_base.specs.declared.role.Role.TheVariants.{Node, Overflow, Trunk, FreeLeaf, PointerMap}
 use Rattle.sx_closure.specs.declared.pair.Source.{Source}

@@ -3,10 +3,12 @@
 
 mod falling;
 mod followed;
+mod law;
 mod names;
 mod rising;
 mod sums;
 
 pub use followed::{begin, follow};
+pub use law::sums_are_references;
 pub use names::Names;
 pub use sums::Sums;

@@ -4,6 +4,7 @@ ghost use Rattle.sx_closure.specs.Graph.{Rises, role_number};
 ghost use Rattle.sx_closure.specs.Tallying.{rank_of};
 ghost use Rattle.sx_follow.specs.Sums.{of_role, kind_of, page_in, cell_in, plus, minus, nothing, many_of, added, taken};
 ghost use Rattle.sx_follow.specs.Rising.{has_many};
+ghost use Rattle.sx_follow.specs.Following.{sum_of};
 ghost use Rattle.sx_follow.specs.Climbing.{all_of, way_of, way_at, is_marked_in, HasWay, AllHaveWays};
 
 use std::alloc::{AllocError, Global};
@@ -108,7 +109,9 @@ impl Sum {
             overflow: self.overflow.checked_add(of_role(Role::Overflow, target))?,
             trunk: self.trunk.checked_add(of_role(Role::Trunk, target))?,
             free_leaf: self.free_leaf.checked_add(of_role(Role::FreeLeaf, target))?,
-            pointer_map: self.pointer_map.checked_add(of_role(Role::PointerMap, target))?,
+            pointer_map: self
+                .pointer_map
+                .checked_add(of_role(Role::PointerMap, target))?,
             kind: self.kind.checked_add(kind_of(target.source))?,
             page: self.page.checked_add(page_in(target.source))?,
             cell: self.cell.checked_add(cell_in(target.source))?,
@@ -122,10 +125,16 @@ impl Sum {
     {
         Sum {
             node: self.node.saturating_sub(of_role(Role::Node, target)),
-            overflow: self.overflow.saturating_sub(of_role(Role::Overflow, target)),
+            overflow: self
+                .overflow
+                .saturating_sub(of_role(Role::Overflow, target)),
             trunk: self.trunk.saturating_sub(of_role(Role::Trunk, target)),
-            free_leaf: self.free_leaf.saturating_sub(of_role(Role::FreeLeaf, target)),
-            pointer_map: self.pointer_map.saturating_sub(of_role(Role::PointerMap, target)),
+            free_leaf: self
+                .free_leaf
+                .saturating_sub(of_role(Role::FreeLeaf, target)),
+            pointer_map: self
+                .pointer_map
+                .saturating_sub(of_role(Role::PointerMap, target)),
             kind: self.kind.saturating_sub(kind_of(target.source)),
             page: self.page.saturating_sub(page_in(target.source)),
             cell: self.cell.saturating_sub(cell_in(target.source)),
@@ -204,6 +213,23 @@ impl Sums {
             sums,
             dead: 0,
         })
+    }
+
+    /// How many references page `no` has.
+    pub fn count(&self, no: u32) -> u64
+        ensures { result ≡ all_of (sum_of self.now no) }
+    {
+        match rank_of(&self.held, no) {
+            Some(rank) => self.sums[rank].all_of(),
+            None => 0,
+        }
+    }
+
+    /// How many dead links there are.
+    pub fn dead(&self) -> u64
+        ensures { result ≡ self.now.dead }
+    {
+        self.dead
     }
 
     /// Counts one target more. It answers `AllocError` where a sum would be no number of its size.

@@ -1,4 +1,4 @@
-use Rattle.std.proofs.Common.{◌≤◌, ◌*◌, length, arith}
+use Rattle.std.proofs.Common.{arith}
 use Rattle.sx_follow.proofs.FallLemmas.{fall_start, fall_more, fall_few, fall_end}
 use Rattle.sx_follow.proofs.falling.fall.Goals as goal
 

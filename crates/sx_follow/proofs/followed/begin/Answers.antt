@@ -1,6 +1,6 @@
 use Rattle.std.proofs.Common.{◌≡◌, ◌∙◌, ◌++◌, [], map, ap, sym, subst}
 use Rattle.sx_follow.specs.Sums.{nothing}
-use Rattle.sx_follow.specs.Rising.{Rise, rose_all}
+use Rattle.sx_follow.specs.Rising.{rose_all}
 use Rattle.sx_follow.specs.Risen.{IsRising}
 use Rattle.sx_follow.specs.Following.{HasFollowed}
 use Rattle.sx_follow.proofs.FollowLemmas.{roots_rising, begin_end}

@@ -1,9 +1,9 @@
 use Rattle.std.proofs.Common.{◌≡◌, ◌∙◌, ◌++◌, [], ap, sym, subst}
 use Rattle.std.specs.List.{flat_map}
 use Rattle.sx_closure.proofs.Walks.{seen_by}
-use Rattle.sx_follow.specs.Rising.{Rise, rose_all}
+use Rattle.sx_follow.specs.Rising.{rose_all}
 use Rattle.sx_follow.specs.Risen.{IsRising, HasRisen}
-use Rattle.sx_follow.specs.Falling.{Fall, fell_all, IsFalling}
+use Rattle.sx_follow.specs.Falling.{fell_all, IsFalling}
 use Rattle.sx_follow.proofs.FallLemmas.{pairs_in}
 use Rattle.sx_follow.proofs.FollowLemmas.{come_rising, gone_falling, checked_followed}
 use Rattle.sx_follow.proofs.followed.follow.Goals as goal

@@ -1,4 +1,4 @@
-use Rattle.std.proofs.Common.{◌≤◌, ◌*◌, length, arith}
+use Rattle.std.proofs.Common.{arith}
 use Rattle.sx_follow.proofs.RiseLemmas.{rise_more, rise_few}
 use Rattle.sx_follow.proofs.rising.rise.Goals as goal
 

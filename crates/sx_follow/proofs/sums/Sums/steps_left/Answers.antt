@@ -1,5 +1,5 @@
-use Rattle.std.proofs.Common.{◌≡◌, ◌∙◌, Some, None, sym, ap, subst, rules, ℕ, Option}
-use Rattle.sx_follow.specs.Climbing.{way_at, HasWay}
+use Rattle.std.proofs.Common.{◌≡◌, Some, None, rules}
+use Rattle.sx_follow.specs.Climbing.{way_at}
 use Rattle.sx_follow.specs.Climbing.HasWay.{from_root, from_page}
 use Rattle.sx_follow.proofs.sums.Sums.steps_left.Goals as goal
 
