@@ -304,7 +304,7 @@ come_rising graph all come gone good can =
     (rising_all graph (pairs_in gone) can.followed.met (seen_by can.before can.followed.met) come (record { sums = all; todo = [] }) good (start_rising graph all come gone can) can.names).rising
 
 -- what rose, what was reached, and what goes
-both_apart : (some others : List Pair) → Apart some → Apart others → ((pair : Pair) → is_in some pair ≡ true → is_in others pair ≡ false) → Apart (some ++ others)
+pub both_apart : (some others : List Pair) → Apart some → Apart others → ((pair : Pair) → is_in some pair ≡ true → is_in others pair ≡ false) → Apart (some ++ others)
 both_apart [] others apart differ none = differ
 both_apart (one ∷ some) others apart differ none = (
   is_in_append some others one ∙ or_from (is_in some one) (is_in others one) apart.0 (none one (is_in_head one some)),

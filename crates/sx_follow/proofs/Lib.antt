@@ -7,3 +7,4 @@ pub mod RiseLemmas
 pub mod FallLemmas
 pub mod FollowLemmas
 pub mod References
+pub mod Gathering
