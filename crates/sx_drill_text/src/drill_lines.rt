@@ -89,12 +89,7 @@ impl Lines for DrillLines {
 
 // Puts the line of what was asked for into `line`.
 #[tactic(auto, unfolding(crate::specs::Drill::asked_line))]
-fn put_asked_line(
-    seed: u64,
-    leaves: u32,
-    commits: u32,
-    line: &mut String,
-) -> Result<(), AllocError>
+fn put_asked_line(seed: u64, leaves: u32, commits: u32, line: &mut String) -> Result<(), AllocError>
     ensures { OnOk result (string_bytes line.new ≡ ended (asked_line seed leaves commits)) }
 {
     line.clear();
@@ -123,5 +118,8 @@ fn put_found_line(counts: DrillCounts, line: &mut String) -> Result<(), AllocErr
         candidates,
         ..
     } = counts;
-    writeln!(line, "commits {commits} rows {rows} candidates {candidates}")
+    writeln!(
+        line,
+        "commits {commits} rows {rows} candidates {candidates}"
+    )
 }

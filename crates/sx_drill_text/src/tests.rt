@@ -18,7 +18,8 @@ fn a_drill_has_three_lines(rt: HostRuntime) -> Result<(), Fail> {
     let mut tray = Tray::new(alloc, 1000, 1000)?;
     let written = write_lines(alloc, &mut lines, &mut tray);
     assert!(rt; written.is_ok());
-    let expected = "drill seed 7 leaves 1 commits 3\ndatabase 12288 wal 12392\ncommits 3 rows 17 candidates 6\n";
+    let expected =
+        "drill seed 7 leaves 1 commits 3\ndatabase 12288 wal 12392\ncommits 3 rows 17 candidates 6\n";
     assert_eq!(rt; tray.taken(), expected.as_bytes());
     Ok(())
 }

@@ -295,7 +295,7 @@ drill_by None leaves commits = None
 unfoldable pub drill_of : List (List ℕ) → Option Asked
 drill_of words =
     if are_settings drill_keys words then
-        drill_by (bounded_of 0 18446744073709551615 (value_of keys.Seed words)) (bounded_of 1 400 (value_of keys.Leaves words)) (bounded_of 0 1000 (value_of keys.Commits words))
+    drill_by (bounded_of 0 18446744073709551615 (value_of keys.Seed words)) (bounded_of 1 400 (value_of keys.Leaves words)) (bounded_of 0 1000 (value_of keys.Commits words))
     else None
 
 -- what the words ask for: where the first is `drill` a drill, else it is the name of a database

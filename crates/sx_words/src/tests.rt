@@ -110,7 +110,12 @@ fn all_moments_are_asked_for_by_carve_alone(rt: HostRuntime) -> Result<(), Fail>
 fn a_drill_is_asked_for_by_three_numbers(rt: HostRuntime) -> Result<(), Fail> {
     let words = owned(
         rt.alloc(),
-        &["drill", "commits=0", "seed=18446744073709551615", "leaves=400"],
+        &[
+            "drill",
+            "commits=0",
+            "seed=18446744073709551615",
+            "leaves=400",
+        ],
     )?;
     let drill = Drill {
         seed: u64::MAX,
@@ -137,7 +142,12 @@ fn other_words_are_outside_the_grammar(rt: HostRuntime) -> Result<(), Fail> {
         &["drill", "seed=1", "leaves=0", "commits=1"],
         &["drill", "seed=1", "leaves=401", "commits=1"],
         &["drill", "seed=1", "leaves=1", "commits=1001"],
-        &["drill", "seed=18446744073709551616", "leaves=1", "commits=1"],
+        &[
+            "drill",
+            "seed=18446744073709551616",
+            "leaves=1",
+            "commits=1",
+        ],
         &["a.db", "report", "at=1"],
         &["a.db", "timeline", "no=1"],
         &["a.db", "timeline", ""],

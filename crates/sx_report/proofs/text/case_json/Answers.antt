@@ -1,4 +1,4 @@
-use Rattle.std.proofs.Common.{rules, ◌≡◌, ◌∙◌, sym, ap}
+use Rattle.std.proofs.Common.{rules}
 use Rattle.sx_report.specs.Facts.{facts_by}
 use Rattle.sx_report.proofs.Joined.{report_joined}
 use Rattle.sx_report.proofs.text.case_json.Goals as goal
