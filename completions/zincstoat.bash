@@ -1,8 +1,8 @@
 # Completion of bash for zincstoat: the database first, then a command, then its keys, each once at most, and the values
-# of keys that are words.
+# of keys that are words. Behind the first word drill come the keys of a drill.
 
 _zincstoat() {
-    local words=() keys=() values=() word name front i
+    local words=() keys=() values=() word name front command first=2 i
 
     # The words up to the current one, without the quotes of the first. Where `=` breaks words, `at=all` is three here.
     for ((i = 1; i <= COMP_CWORD; i++)); do
@@ -21,6 +21,7 @@ _zincstoat() {
         compopt -o filenames 2>/dev/null
         word=${word#[\'\"]}
         word=${word//\\/}
+        [[ -n $word && drill == "$word"* ]] && COMPREPLY+=(drill)
         [[ $COMP_WORDBREAKS == *=* && $word == *=* ]] && front=${word%=*}=
         while IFS= read -r name; do
             word=${name%-wal}
@@ -31,24 +32,30 @@ _zincstoat() {
         return
     fi
 
-    if ((${#words[@]} == 2)); then
-        mapfile -t COMPREPLY < <(compgen -W 'timeline show map page carve explain generations history' -- "$word")
+    if [[ ${words[0]} == drill ]]; then
+        command=drill
+        first=1
+    elif ((${#words[@]} == 2)); then
+        mapfile -t COMPREPLY < <(compgen -W 'timeline show map page carve explain generations history report' -- "$word")
         return
+    else
+        command=${words[1]}
     fi
 
-    case ${words[1]} in
+    case $command in
     show) keys=(table at) ;;
     map) keys=(at) ;;
     page) keys=(no at) ;;
     carve) keys=(at) ;;
     explain) keys=(part byte at) ;;
     history) keys=(table rowid) ;;
+    drill) keys=(seed leaves commits) ;;
     esac
 
     if [[ $word == *=* ]]; then
         name=${word%%=*}
         [[ " ${keys[*]} " == *" $name "* ]] || return
-        case ${words[1]}:$name in
+        case $command:$name in
         explain:part) values=(database wal journal) ;;
         carve:at) values=(all journal) ;;
         *:at) values=(journal) ;;
@@ -62,7 +69,7 @@ _zincstoat() {
     # The keys that aren't set yet, each with its `=` and no space behind it.
     compopt -o nospace 2>/dev/null
     for name in "${keys[@]}"; do
-        for ((i = 2; i < ${#words[@]} - 1; i++)); do
+        for ((i = first; i < ${#words[@]} - 1; i++)); do
             [[ ${words[i]} == "$name="* ]] && continue 2
         done
         [[ $name= == "$word"* ]] && COMPREPLY+=("$name=")
