@@ -28,7 +28,10 @@ use sx_words::{Question, Request, read_words};
 /// reads and all refusals are decided before the first byte is written. `ReadFault` comes only where the store failed
 /// in this call, and then nothing is written; `WriteFault` only where the sink failed, and `Memory` where memory ran
 /// out: then a front of the answer's text is written. Words outside the grammar and a database that isn't there are
-/// refused without memory. The cost is that of reading the files and of writing the text.
+/// refused without memory. A drill asks the store for nothing: its evidence is made from its seed.
+///
+/// The cost is that of reading the files, of finding the answer and of writing the text. Most commands find it at the price
+/// of one moment's pages; `history`, `carve` at all moments, `report` and `drill` at that price for each moment.
 pub fn examine<S: Store, W: Sink>(
     alloc: Global,
     words: &[String],
