@@ -1,10 +1,10 @@
 -- What the loop over the pairs that are met keeps, and the table with which it ends.
-use Rattle.std.proofs.Common.{◌≡◌, ℕ, ◌+◌, ◌-◌, ◌*◌, ◌<◌, ◌≤◌, Bool, true, false, List, [], ◌∷◌, length, map, fold, get_or, take, take_all, replicate, append-nil, ◌∙◌, Option, Some, None, is_some, refl, sym, ap, subst, arith}
+use Rattle.std.proofs.Common.{◌≡◌, ℕ, ◌+◌, ◌<◌, ◌≤◌, true, List, [], length, map, fold, get_or, take, take_all, replicate, append-nil, ◌∙◌, Option, Some, None, is_some, refl, sym, ap, subst, arith}
 use Rattle.std.specs.Option.{option_map}
 use Rattle.sx_base.specs.declared.role.Role.TheVariants.{Node}
 use Rattle.sx_closure.specs.declared.pair.Pair.{Pair}
 use Rattle.sx_closure.specs.declared.pair.Target.{Target}
-use Rattle.sx_closure.specs.Graph.{is_in, is_named, Graph, IsGraph, is_held, to_page, only}
+use Rattle.sx_closure.specs.Graph.{Graph, IsGraph, is_held}
 use Rattle.sx_closure.specs.Chains.{one_reference}
 use Rattle.sx_closure.specs.Tallying.{blank, rank_of, Tallied, added_all, entry_at, count_of, one_of, numbered, Table, IsTableOf}
 use Rattle.sx_closure.proofs.Tallies.{Differ, rank_is_some, same_each}

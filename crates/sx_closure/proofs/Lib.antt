@@ -7,3 +7,5 @@ pub mod Counting
 pub mod Numbering
 pub mod Closing
 pub mod Standing
+pub mod Putting
+pub mod Widening

@@ -1,6 +1,6 @@
 -- What is kept while targets are counted: for each held page its count of references, the last of them and the roles in
 -- which it was named; the pairs met, in the order in which they were met; the count of dead links.
-use Rattle.std.specs.Prelude.{◌≡◌, ℕ, ◌+◌, ◌-◌, ◌^◌, ◌==◌, Bool, true, false, if◌then◌else◌, min, List, [], ◌∷◌, ◌++◌, length, slice_index_or, slice_set, fold, Option, Some, None, option_map}
+use Rattle.std.specs.Prelude.{◌≡◌, ℕ, ◌+◌, ◌-◌, ◌^◌, ◌==◌, Bool, true, false, if◌then◌else◌, min, List, [], ◌∷◌, ◌++◌, length, map, slice_index_or, slice_set, fold, Option, Some, None, option_map}
 use Rattle.sx_base.specs.declared.role.Role.{Role}
 use Rattle.sx_base.specs.declared.role.Role.TheVariants.{Node, Overflow, Trunk, FreeLeaf, PointerMap}
 use Rattle.sx_closure.specs.declared.pair.Pair.{Pair}
@@ -111,6 +111,19 @@ count_at table page = count_of (entry_at table.held table.entries page)
 abbrev pub one_at : Table → ℕ → Option Target
 one_at table page = one_of page (entry_at table.held table.entries page)
 
+-- the entry of a page with so many references, and that one where it has no other
+abbrev pub entry_of : ℕ → Option Target → Entry
+entry_of count None = record blank { count = count }
+entry_of count (Some target) = record blank { count = count; role = target.pair.role; source = target.source; rest = target.rest }
+
+abbrev pub put_at : Table → Entry → Option ℕ → Table
+put_at table entry None = table
+put_at table entry (Some rank) = record table { entries = slice_set table.entries rank entry }
+
+-- the table with another entry of a page, where that is held
+unfoldable pub put : Table → ℕ → Entry → Table
+put table page entry = put_at table entry (rank_of table.held page)
+
 -- what is kept of a page's number, if it is held
 abbrev pub left_by_rank : List (Option ℕ) → Option ℕ → Option ℕ
 left_by_rank lefts None = None
@@ -138,6 +151,37 @@ numbered body table pair = numbered_at body table pair.page (rank_of table.held 
 -- the number of a page, where its one reference is of the role of overflow pages
 abbrev pub left_at : Table → ℕ → Option ℕ
 left_at table page = if is_overflow (one_at table page) then number_at table page else None
+
+-- the number of the page before, where the reference comes from a page and that has a number of the role
+abbrev pub left_before : Table → Option ℕ → Option ℕ
+left_before table None = None
+left_before table (Some before) = left_at table before
+
+-- the number that a page has by its one reference and by the number of the page before it
+abbrev pub ruled : ℕ → Table → ℕ → Option ℕ
+ruled body table page = number_of body (one_at table page) (left_before table (page_before (one_at table page)))
+
+abbrev pub put_left_at : Table → Option ℕ → Option ℕ → Table
+put_left_at table left None = table
+put_left_at table left (Some rank) = record table { lefts = slice_set table.lefts rank left }
+
+-- the table with another number of a page, where that is held
+unfoldable pub put_left : Table → ℕ → Option ℕ → Table
+put_left table page left = put_left_at table left (rank_of table.held page)
+
+-- what is kept by a place, or of a page that nothing names
+abbrev pub entry_by_rank : List Entry → Option ℕ → Entry
+entry_by_rank entries None = blank
+entry_by_rank entries (Some rank) = slice_index_or entries rank blank
+
+-- the table with these pages for the held ones: of one that wasn't held it is kept that nothing names it
+unfoldable pub widened_table : List ℕ → Table → Table
+widened_table numbers table = record {
+  held = numbers;
+  entries = map (λ page. entry_by_rank table.entries (rank_of table.held page)) numbers;
+  lefts = map (λ page. number_at table page) numbers;
+  dead = table.dead;
+}
 
 -- the table says what the graph defines; a page holds `body` bytes of a payload
 pub record IsTableOf (graph : Graph) (body : ℕ) (table : Table) : Type 0 where

@@ -1,12 +1,13 @@
 //! What refers to each page.
-ghost use Rattle.std.specs.Prelude.{◌≡◌, ◌<◌, ◌+◌, ◌-◌, ◌^◌, length, min, option_map};
+ghost use Rattle.std.specs.Prelude.{◌≡◌, ◌<◌, ◌+◌, ◌-◌, ◌^◌, Some, IfOk, IsTrue, length, min, option_map};
 ghost use Rattle.sx_closure.specs.Graph.{Rises};
 ghost use Rattle.sx_closure.specs.Chains.{page_before, number_of};
-ghost use Rattle.sx_closure.specs.Tallying.{is_marked, with_mark, counted, blank, count_at, one_of, one_at, number_at, number_before, numbered, left_at};
+ghost use Rattle.sx_closure.specs.Tallying.{rank_of, entry_by_rank, widened_table, is_marked, with_mark, counted, blank, entry_of, entry_at, put, count_at, one_of, one_at, number_at, number_before, numbered, left_at, left_before, ruled, put_left};
 
 use crate::chain::{number_of, page_before};
 use crate::pair::{Pair, Source, Target};
 use crate::rank::rank_of;
+use std::alloc::{AllocError, Global};
 use std::marker::Model;
 use sx_base::Role;
 
@@ -71,6 +72,25 @@ pub(crate) struct Entry {
 }
 
 impl Entry {
+    /// A page with so many references, and that one where it has no other.
+    fn of(count: u64, one: Option<Target>) -> Self
+        ensures { result ≡ entry_of count one }
+    {
+        match one {
+            Some(target) => Entry {
+                count,
+                role: target.pair.role,
+                source: target.source,
+                rest: target.rest,
+                ..Entry::blank()
+            },
+            None => Entry {
+                count,
+                ..Entry::blank()
+            },
+        }
+    }
+
     /// A page that nothing names.
     pub(crate) fn blank() -> Self
         ensures { result ≡ blank }
@@ -176,6 +196,65 @@ impl RefTable {
         }
     }
 
+    /// Writes anew how many references page `no` has, and that one where it has no other. Nothing else changes. It answers
+    /// whether the page is held: where it isn't, nothing changes.
+    #[tactic(auto, unfolding(crate::specs::Tallying::put))]
+    pub fn put(&mut self, no: u32, count: u64, one: Option<Target>) -> bool
+        ensures value { self.new ≡ put self.old no (entry_of count one) }
+        ensures held { IsTrue result → entry_at self.new.held self.new.entries no ≡ Some (entry_of count one) }
+    {
+        match rank_of(&self.held, no) {
+            Some(rank) => {
+                self.entries[rank] = Entry::of(count, one);
+                true
+            }
+            None => false,
+        }
+    }
+
+    /// How many bytes of a payload are still to come at page `no` by its one reference, where the table is right for the page
+    /// that this comes from and each page holds `body` of them.
+    pub fn ruled(&self, no: u32, body: u32) -> Option<u32>
+        ensures { result ≡ ruled body self.now no }
+    {
+        let one = self.one(no);
+        let before = self.left_before(page_before(one));
+        number_of(body, one, before)
+    }
+
+    /// The number of the page before, if there is one and it is an overflow page.
+    fn left_before(&self, before: Option<u32>) -> Option<u32>
+        ensures { result ≡ left_before self.now before }
+    {
+        match before {
+            Some(page) => self.left(page),
+            None => None,
+        }
+    }
+
+    /// Writes anew how many bytes of a payload are still to come at page `no`. Nothing else changes. It answers whether the
+    /// page is held: where it isn't, nothing changes.
+    #[tactic(auto, unfolding(crate::specs::Tallying::put_left))]
+    pub fn put_left(&mut self, no: u32, left: Option<u32>) -> bool
+        ensures value { self.new ≡ put_left self.old no left }
+        ensures held { IsTrue result → number_at self.new no ≡ left }
+    {
+        match rank_of(&self.held, no) {
+            Some(rank) => {
+                self.lefts[rank] = left;
+                true
+            }
+            None => false,
+        }
+    }
+
+    /// Writes anew how many dead links there are. Nothing else changes.
+    pub fn put_dead(&mut self, dead: u64)
+        ensures { self.new ≡ record self.old { dead = dead } }
+    {
+        self.dead = dead;
+    }
+
     /// The number of a page, if it is held and has one.
     fn number_at(&self, no: u32) -> Option<u32>
         ensures { result ≡ number_at self.now no }
@@ -197,7 +276,7 @@ impl RefTable {
     }
 
     /// The one reference to page `no`, where it has no other.
-    fn one(&self, no: u32) -> Option<Target>
+    pub fn one(&self, no: u32) -> Option<Target>
         ensures { result ≡ one_at self.now no }
     {
         match rank_of(&self.held, no) {
@@ -245,6 +324,36 @@ impl RefTable {
         match self.role_of(no) {
             Some(Role::Overflow) => self.number_at(no),
             _ => None,
+        }
+    }
+
+    /// The same table over more pages: with an entry for each of these, so that each can be written anew. Nothing names one
+    /// that wasn't held; what was kept of a page that isn't among these is lost.
+    ///
+    /// The numbers rise. The cost is a look-up for each number; 56 bytes are taken for each. It answers `AllocError` where
+    /// memory runs out.
+    #[tactic(auto, unfolding(crate::specs::Tallying::widened_table))]
+    pub fn widened(&self, alloc: Global, numbers: &[u32]) -> Result<RefTable, AllocError>
+        requires { Rises numbers.now }
+        ensures { IfOk result (λ table. table ≡ widened_table numbers.now self.now) }
+    {
+        let mut entries = Vec::with_capacity(alloc, numbers.len())?;
+        let mut lefts = Vec::with_capacity(alloc, numbers.len())?;
+        for number in numbers {
+            entries.push(self.entry(*number))?;
+            lefts.push(self.number_at(*number))?;
+        }
+        let held = numbers.to_vec(alloc)?;
+        Ok(RefTable::new(held, entries, lefts, self.dead))
+    }
+
+    /// What is kept of a page, or of one that nothing names.
+    fn entry(&self, no: u32) -> Entry
+        ensures { result ≡ entry_by_rank self.now.entries (rank_of self.now.held no) }
+    {
+        match rank_of(&self.held, no) {
+            Some(rank) => self.entries[rank],
+            None => Entry::blank(),
         }
     }
 

@@ -2,7 +2,7 @@
 use Rattle.std.proofs.Common.{◌≡◌, ℕ, zero, suc, ◌+◌, ◌*◌, ◌<◌, ◌==◌, ◌&&◌, ◌||◌, Bool, true, false, not, cond, List, [], ◌∷◌, ◌++◌, length, append-nil, map, filter, get_or, sum_by, Option, Some, None, IfSome, is_some, inl, inr, refl, sym, ap, subst, ◌∙◌, arith}
 use Rattle.std.specs.List.{flat_map}
 use Rattle.std.specs.List.Sorted.{IsPermutation}
-use Rattle.std.proofs.lemmas.Bool.{and_parts, and_from, or_left, or_right, or_cases, or_from, false≢true, eqb-true}
+use Rattle.std.proofs.lemmas.Bool.{and_parts, and_from, or_left, or_right, or_cases, or_from, false≢true, eqb-true, eqb-false}
 use Rattle.std.proofs.lemmas.List.Concat.{flat_map-append}
 use Rattle.std.proofs.lemmas.List.Sorted.{IsPermutation-trans, IsPermutation-append_right, list_any-IsPermutation}
 use Rattle.sx_base.specs.declared.role.Role.{Role}
@@ -23,11 +23,12 @@ use Rattle.sx_follow.specs.Falling.{Fall, fell_all, IsFalling}
 use Rattle.sx_follow.specs.Climbing.{source_page, IsSourced, all_of, way_of, way_by, way_at, HasWay, marked_by, is_marked_in, AllHaveWays}
 use Rattle.sx_follow.specs.Climbing.HasWay.{from_root, from_page}
 use Rattle.sx_follow.specs.Following.{HasFollowed, CanFollow}
+use Rattle.sx_follow.specs.declared.followed.Followed.{Followed}
 use Rattle.sx_closure.proofs.Pairs.{or_none, same_is, same_answer, is_in_append, is_in_head, is_in_filter, apart_filter, same_pieces}
 use Rattle.sx_closure.proofs.Ranks.{differ}
 use Rattle.sx_closure.proofs.Tallies.{at_rank, rank_is_some}
 use Rattle.sx_closure.proofs.Reaching.{named_append, named_from, named_to, reach_none, reach_one, reach_held, reach_stays, apart_reach}
-use Rattle.sx_follow.proofs.Summing.{total_more, total_of, one_each, one_of_long, ones_long, one_sum, named_some}
+use Rattle.sx_follow.proofs.Summing.{total_more, total_of, one_each, one_of_long, ones_long, one_sum, named_some, some_named}
 use Rattle.sx_follow.proofs.SumLemmas.{sums_none, sums_same}
 use Rattle.sx_follow.proofs.Following.{IsReached, IsClosed, order_apart, order_held, named_reached, marked_are, reach_enough, order_is_reach}
 use Rattle.sx_follow.proofs.Climbing.{AllNamed, IsGood, climb, still_reached}
@@ -272,6 +273,30 @@ followed_marked graph met pair good order same =
     same pair ∙ reach_enough graph pair good (named_reached graph met pair
     (λ p there. record { rounds = 4 * length graph.held; there = sym (same p) ∙ there }) parts.1 parts.0))
 
+-- whether a pair is named the sums tell
+named_case : (seen : List Target) (all : Sums) (pair : Pair) (o : Option ℕ) → AreSums seen all → rank_of all.held pair.page ≡ o → marked_by all pair o ≡ true
+    → (is_held all.held pair.page ≡ true) × (is_named seen pair ≡ true)
+named_case seen all pair None are ranked marked = absurd (false≢true marked)
+named_case seen all pair (Some rank) are ranked marked =
+    let many = many_of (get_or all.sums rank nothing) pair.role in
+    let other = eqb-false many 0 (not_false (many == 0) marked) in
+    let there = many_at seen all pair rank are ranked in (
+      sym (rank_is_some all.held pair.page) ∙ ap is_some ranked,
+      some_named seen pair (omega (arith, other, there)),
+    )
+
+-- so the sums tell which pairs are reached
+pub met_marked : (graph : Graph) (all : Sums) (pair : Pair) → IsGraph graph → (followed : HasFollowed graph all) → is_in followed.met pair ≡ is_marked_in all pair
+met_marked graph all pair good followed =
+    let met = followed.met in
+    let seen = seen_by graph met in
+    let is = followed_marked graph met pair good followed.order followed.same in
+    same_answer (is_in met pair) (is_marked_in all pair)
+    (λ there. let parts = and_parts (is_named seen pair) (is_held graph.held pair.page) (sym is ∙ there) in
+    marked_in seen all pair followed.are (ap (λ held. is_held held pair.page) followed.held_is ∙ parts.1) parts.0)
+    (λ marked. let parts = named_case seen all pair (rank_of all.held pair.page) followed.are refl marked in
+    is ∙ and_from (is_named seen pair) (is_held graph.held pair.page) parts.1 (ap (λ held. is_held held pair.page) (sym followed.held_is) ∙ parts.0))
+
 start_exchange : (graph : Graph) (all : Sums) (come gone : List Target) → (can : CanFollow graph all come gone) → IsExchange can.before graph (pairs_in gone) can.followed.met
 start_exchange graph all come gone can = record {
   held = λ pair there. ap (λ held. is_held held pair.page) (sym can.held) ∙ order_held can.before [] can.followed.met can.followed.order pair there;
@@ -280,7 +305,7 @@ start_exchange graph all come gone can = record {
 }
 
 start_rising : (graph : Graph) (all : Sums) (come gone : List Target) → (can : CanFollow graph all come gone)
-    → IsRising graph (pairs_in gone) can.followed.met (seen_by can.before can.followed.met) (record { sums = all; todo = [] })
+    → IsRising graph (pairs_in gone) can.followed.met (seen_by can.before can.followed.met) (record { sums = all; named = []; todo = [] })
 start_rising graph all come gone can =
     let followed = can.followed in
     let met = followed.met in
@@ -298,10 +323,10 @@ start_rising graph all come gone can =
 
 -- what comes is added
 pub come_rising : (graph : Graph) (all : Sums) (come gone : List Target) → IsGraph graph → (can : CanFollow graph all come gone)
-    → IsRising graph (pairs_in gone) can.followed.met (come ++ seen_by can.before can.followed.met) (rose_all (record { sums = all; todo = [] }) come)
+    → IsRising graph (pairs_in gone) can.followed.met (come ++ seen_by can.before can.followed.met) (rose_all (record { sums = all; named = []; todo = [] }) come)
 unfolding rose_all
 come_rising graph all come gone good can =
-    (rising_all graph (pairs_in gone) can.followed.met (seen_by can.before can.followed.met) come (record { sums = all; todo = [] }) good (start_rising graph all come gone can) can.names).rising
+    (rising_all graph (pairs_in gone) can.followed.met (seen_by can.before can.followed.met) come (record { sums = all; named = []; todo = [] }) good (start_rising graph all come gone can) can.names).rising
 
 -- what rose, what was reached, and what goes
 pub both_apart : (some others : List Pair) → Apart some → Apart others → ((pair : Pair) → is_in some pair ≡ true → is_in others pair ≡ false) → Apart (some ++ others)
@@ -365,15 +390,14 @@ gone_falling graph all come gone state good can is =
     (fall_all graph 0 gone first good (omega arith) start).falling
 
 -- the sums that the check hands on
-pub checked_followed : (graph : Graph) (state : Fall) (found : Option Sums) → IsGraph graph → IsSourced graph → IsFalling graph [] state
-    → IfSome found (λ sums. (sums ≡ state.sums) × AllHaveWays state.sums state.lost) → IfSome found (HasFollowed graph)
-checked_followed graph state None good sourced is checked = checked
-checked_followed graph state (Some sums) good sourced is checked =
-    subst (HasFollowed graph) (sym checked.0) (follow_end graph state good sourced is checked.1)
+pub checked_followed : (graph : Graph) (state : Fall) (found : Option Followed) → IsGraph graph → IsSourced graph → IsFalling graph [] state
+    → IfSome found (λ it. it.sums ≡ state.sums) → IfSome found (λ it. AllHaveWays state.sums state.lost) → IfSome found (λ it. HasFollowed graph it.sums)
+checked_followed graph state None good sourced is same ways = same
+checked_followed graph state (Some it) good sourced is same ways = subst (HasFollowed graph) (sym same) (follow_end graph state good sourced is ways)
 
 -- ---- from nothing
 
-begin_rising : (graph : Graph) (held : List ℕ) → held ≡ graph.held → IsRising graph [] [] [] (record { sums = record { held = held; sums = map (λ page. nothing) held; dead = 0 }; todo = [] })
+begin_rising : (graph : Graph) (held : List ℕ) → held ≡ graph.held → IsRising graph [] [] [] (record { sums = record { held = held; sums = map (λ page. nothing) held; dead = 0 }; named = []; todo = [] })
 begin_rising graph held is = record {
   held_is = is;
   are = sums_none held;
@@ -386,10 +410,10 @@ begin_rising graph held is = record {
 }
 
 pub roots_rising : (graph : Graph) (held : List ℕ) → IsGraph graph → held ≡ graph.held
-    → IsRising graph [] [] (graph.roots ++ []) (rose_all (record { sums = record { held = held; sums = map (λ page. nothing) held; dead = 0 }; todo = [] }) graph.roots)
+    → IsRising graph [] [] (graph.roots ++ []) (rose_all (record { sums = record { held = held; sums = map (λ page. nothing) held; dead = 0 }; named = []; todo = [] }) graph.roots)
 unfolding rose_all
 roots_rising graph held good is =
-    (rising_all graph [] [] [] graph.roots (record { sums = record { held = held; sums = map (λ page. nothing) held; dead = 0 }; todo = [] }) good (begin_rising graph held is)
+    (rising_all graph [] [] [] graph.roots (record { sums = record { held = held; sums = map (λ page. nothing) held; dead = 0 }; named = []; todo = [] }) good (begin_rising graph held is)
     (λ pair named. named_append graph.roots (flat_map graph.targets []) pair ∙ or_left (is_named graph.roots pair) (is_named (flat_map graph.targets []) pair) named)).rising
 
 pub begin_end : (graph : Graph) (state : Rise) → IsGraph graph → HasRisen graph [] [] (graph.roots ++ []) state → HasFollowed graph state.sums

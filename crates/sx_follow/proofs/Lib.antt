@@ -8,3 +8,5 @@ pub mod FallLemmas
 pub mod FollowLemmas
 pub mod References
 pub mod Gathering
+pub mod KeepLemmas
+pub mod Widening

@@ -121,7 +121,7 @@ same_held graph one other b same is = ap (λ p. is_held graph.held p.page) (same
 -- its pair rose before, or can't rise
 rise_stays : (graph : Graph) (lost base : List Pair) (seen : List Target) (state : Rise) (target : Target) → IsGraph graph → IsRising graph lost base seen state
     → (is_named seen target.pair ≡ true) ⊎ (is_held graph.held target.pair.page ≡ false)
-    → IsRising graph lost base (target ∷ seen) (record { sums = added state.sums target; todo = state.todo })
+    → IsRising graph lost base (target ∷ seen) (record { sums = added state.sums target; named = state.named ++ target.pair ∷ []; todo = state.todo })
 rise_stays graph lost base seen state target good is old = record {
   held_is = added_held state.sums target ∙ is.held_is;
   are = sums_more seen state.sums target (subst Differ (sym is.held_is) (differ graph.held good.rising)) is.are;
@@ -140,7 +140,7 @@ rise_stays graph lost base seen state target good is old = record {
 -- it rises
 rise_new : (graph : Graph) (lost base : List Pair) (seen : List Target) (state : Rise) (target : Target) → IsGraph graph → (is : IsRising graph lost base seen state)
     → IsNamedIn graph state.todo base target.pair → is_named seen target.pair ≡ false → is_held graph.held target.pair.page ≡ true
-    → IsRising graph lost base (target ∷ seen) (record { sums = added state.sums target; todo = state.todo ++ target.pair ∷ [] })
+    → IsRising graph lost base (target ∷ seen) (record { sums = added state.sums target; named = state.named ++ target.pair ∷ []; todo = state.todo ++ target.pair ∷ [] })
 rise_new graph lost base seen state target good is named none held =
     let pair = target.pair in
     let apart : is_in is.met pair ≡ false = is.marked pair ∙ ap (λ n. n && is_held graph.held pair.page) none in
@@ -167,7 +167,7 @@ rise_new graph lost base seen state target good is named none held =
 some_case : (graph : Graph) (lost base : List Pair) (seen : List Target) (state : Rise) (target : Target) (many : ℕ) (b : Bool) → IsGraph graph → (is : IsRising graph lost base seen state)
     → IsNamedIn graph state.todo base target.pair → is_held graph.held target.pair.page ≡ true → many ≡ total (of_role target.pair.role) target.pair.page seen
     → (many == 0) ≡ b
-    → IsRising graph lost base (target ∷ seen) (record { sums = added state.sums target; todo = cond b (state.todo ++ target.pair ∷ []) state.todo })
+    → IsRising graph lost base (target ∷ seen) (record { sums = added state.sums target; named = state.named ++ target.pair ∷ []; todo = cond b (state.todo ++ target.pair ∷ []) state.todo })
 some_case graph lost base seen state target many true good is named held count sure =
     rise_new graph lost base seen state target good is named (none_named seen target.pair (sym count ∙ eqb-true many 0 sure)) held
 some_case graph lost base seen state target many false good is named held count sure =
@@ -178,7 +178,7 @@ some_case graph lost base seen state target many false good is named held count 
 rank_case : (graph : Graph) (lost base : List Pair) (seen : List Target) (state : Rise) (target : Target) (o : Option ℕ) → IsGraph graph → (is : IsRising graph lost base seen state)
     → IsNamedIn graph state.todo base target.pair → rank_of state.sums.held target.pair.page ≡ o
     → IsRising graph lost base (target ∷ seen)
-    (record { sums = added state.sums target; todo = cond (has_at 0 state.sums target.pair o) (state.todo ++ target.pair ∷ []) state.todo })
+    (record { sums = added state.sums target; named = state.named ++ target.pair ∷ []; todo = cond (has_at 0 state.sums target.pair o) (state.todo ++ target.pair ∷ []) state.todo })
 rank_case graph lost base seen state target None good is named ranked =
     let missing : is_held graph.held target.pair.page ≡ false =
     ap (λ held. is_held held target.pair.page) (sym is.held_is) ∙ sym (rank_is_some state.sums.held target.pair.page) ∙ ap is_some ranked in

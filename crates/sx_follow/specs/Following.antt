@@ -11,6 +11,7 @@ use Rattle.sx_follow.specs.Orders.{IsOrder}
 use Rattle.sx_follow.specs.declared.sums.Sum.{Sum}
 use Rattle.sx_follow.specs.Sums.{nothing, plus, Sums, sum_at, AreSums}
 use Rattle.sx_follow.specs.Climbing.{all_of}
+use Rattle.sx_follow.specs.Ones.{the_one}
 
 -- the sums are those over all targets of the graph: of the roots, and of the reached pairs, each asked once
 pub record HasFollowed (graph : Graph) (all : Sums) : Type 0 where
@@ -38,8 +39,10 @@ pub record CanFollow (graph : Graph) (all : Sums) (come gone : List Target) : Ty
 abbrev pub sum_of : Sums → ℕ → Sum
 sum_of all page = sum_at all (rank_of all.held page)
 
--- the sums say of each page how many references it has, and of one with one they are its sums; and how many links are dead
+-- the sums say of each page how many references it has, and of one with one they are its sums and tell which it is; and how
+-- many links are dead
 pub record AreReferences (graph : Graph) (all : Sums) : Type 0 where
   pub counts : (page : ℕ) → all_of (sum_of all page) ≡ length (references_to graph page)
   pub ones : (page : ℕ) (target : Target) → one_reference graph page ≡ Some target → sum_of all page ≡ plus nothing target
+  pub told : (page : ℕ) → the_one all page ≡ one_reference graph page
   pub dead : all.dead ≡ length (dead_links graph)

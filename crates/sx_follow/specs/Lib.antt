@@ -4,5 +4,9 @@ pub mod Rising
 pub mod Risen
 pub mod Falling
 pub mod Climbing
+pub mod Ones
 pub mod Following
+pub mod Keeping
+pub mod Gathered
 pub mod Laws
+pub mod Widened

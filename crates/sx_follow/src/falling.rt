@@ -1,8 +1,10 @@
 //! Pairs that fall: those that were reached before and are named no more.
 ghost use Rattle.std.specs.Prelude.{◌≡◌, ◌<◌, ◌≤◌, [], length, slice_index_or, IfOk, IfSome, MatchOption};
 ghost use Rattle.sx_follow.specs.Falling.{CanFall, HasFallen};
+ghost use Rattle.sx_follow.specs.Keeping.{Keeps};
 ghost use Rattle.sx_follow.specs.Climbing.{AllHaveWays};
 
+use crate::followed::Followed;
 use crate::names::Names;
 use crate::sums::Sums;
 use std::alloc::{AllocError, Global};
@@ -38,13 +40,20 @@ impl Falling {
         }
     }
 
-    /// The sums, where each pair that lost a name and is named still has a way of single references from a root, in so many
-    /// steps together.
-    pub(crate) fn checked(self, steps: u64) -> Option<Sums>
-        ensures { IfSome result (λ sums. (sums ≡ self.sums) × AllHaveWays self.sums self.lost) }
+    /// The sums and the pairs that lost a name, with those that were named before, where each pair that lost a name and is
+    /// named still has a way of single references from a root, in so many steps together.
+    pub(crate) fn checked(self, named: Vec<Pair>, steps: u64) -> Option<Followed>
+        ensures sums { IfSome result (λ followed. followed.sums ≡ self.sums) }
+        ensures ways { IfSome result (λ followed. AllHaveWays self.sums self.lost) }
+        ensures named { IfSome result (λ followed. followed.named.items ≡ named.items) }
+        ensures lost { IfSome result (λ followed. followed.lost.items ≡ self.lost) }
     {
         if self.sums.all_have_ways(&self.lost, steps) {
-            Some(self.sums)
+            Some(Followed {
+                sums: self.sums,
+                named,
+                lost: self.lost,
+            })
         } else {
             None
         }
@@ -65,7 +74,8 @@ impl Falling {
 /// Takes back what the pairs that fell name, until all is taken back.
 pub fn fall<N: Names>(names: &N, falling: &mut Falling) -> Result<(), AllocError>
     requires { CanFall (N.graph names.now) falling.old }
-    ensures { IfOk result (λ _. HasFallen (N.graph names.now) falling.new) }
+    ensures fallen { IfOk result (λ _. HasFallen (N.graph names.now) falling.new) }
+    ensures kept { IfOk result (λ _. Keeps falling.old.lost falling.old.sums falling.new.lost falling.new.sums) }
 {
     let mut next = 0;
     while let Some(pair) = falling.todo_at(next) {

@@ -1,13 +1,26 @@
 //! The sums of one graph followed to another of the same held pages.
 ghost use Rattle.std.specs.Prelude.{◌≡◌, IfOk, IfSome};
 ghost use Rattle.sx_follow.specs.Following.{CanFollow, HasFollowed};
+ghost use Rattle.sx_follow.specs.Keeping.{AreKeptBut};
 
 use crate::falling::{Falling, fall};
 use crate::names::Names;
 use crate::rising::{Rising, rise};
 use crate::sums::Sums;
 use std::alloc::{AllocError, Global};
-use sx_closure::Kept;
+use sx_closure::{Kept, Pair};
+
+/// Sums that were followed to another graph, and the pairs that were named or lost a name on the way: each page of which the
+/// sums may be others now is among these.
+#[derive(Drop)]
+pub struct Followed {
+    /// The sums.
+    pub sums: Sums,
+    /// The pairs that were named, in the order in which they were.
+    pub named: Vec<Pair>,
+    /// The pairs that lost a name, in the order in which they did.
+    pub lost: Vec<Pair>,
+}
 
 /// The sums of a graph with these held pages and root targets, from nothing: what the roots name rises, and what that
 /// reaches.
@@ -27,7 +40,8 @@ pub fn begin<N: Names>(
     let mut rising = Rising::from(alloc, Sums::fresh(alloc, held)?);
     roots.give(&mut rising)?;
     rise(names, &mut rising)?;
-    Ok(rising.sums())
+    let (sums, _) = rising.parts();
+    Ok(sums)
 }
 
 /// Follows the sums of one graph to another: first what comes is added and what it reaches rises, then what goes is taken
@@ -43,15 +57,17 @@ pub fn follow<N: Names>(
     come: &Kept,
     gone: &Kept,
     steps: u64,
-) -> Result<Option<Sums>, AllocError>
+) -> Result<Option<Followed>, AllocError>
     requires { CanFollow (N.graph names.now) sums come.now gone.now }
-    ensures { IfOk result (λ followed. IfSome followed (HasFollowed (N.graph names.now))) }
+    ensures followed { IfOk result (λ found. IfSome found (λ followed. HasFollowed (N.graph names.now) followed.sums)) }
+    ensures kept { IfOk result (λ found. IfSome found (λ followed. AreKeptBut followed.named.items followed.lost.items sums followed.sums)) }
 {
     let mut rising = Rising::from(alloc, sums);
     come.give(&mut rising)?;
     rise(names, &mut rising)?;
-    let mut falling = Falling::from(alloc, rising.sums());
+    let (risen, named) = rising.parts();
+    let mut falling = Falling::from(alloc, risen);
     gone.give(&mut falling)?;
     fall(names, &mut falling)?;
-    Ok(falling.checked(steps))
+    Ok(falling.checked(named, steps))
 }

@@ -8,7 +8,7 @@ mod names;
 mod rising;
 mod sums;
 
-pub use followed::{begin, follow};
-pub use law::sums_are_references;
+pub use followed::{Followed, begin, follow};
+pub use law::{sums_are_references, wider_sums_are_references};
 pub use names::Names;
 pub use sums::Sums;

@@ -4,6 +4,7 @@ ghost use Rattle.sx_closure.specs.Graph.{Rises, role_number};
 ghost use Rattle.sx_closure.specs.Tallying.{rank_of};
 ghost use Rattle.sx_follow.specs.Sums.{of_role, kind_of, page_in, cell_in, plus, minus, nothing, many_of, added, taken};
 ghost use Rattle.sx_follow.specs.Rising.{has_many};
+ghost use Rattle.sx_follow.specs.Ones.{role_in, source_in, one_in, the_one};
 ghost use Rattle.sx_follow.specs.Following.{sum_of};
 ghost use Rattle.sx_follow.specs.Climbing.{all_of, way_of, way_at, is_marked_in, HasWay, AllHaveWays};
 
@@ -165,6 +166,53 @@ impl Sum {
         Some(Some(self.page))
     }
 
+    /// Of which role the one reference is.
+    fn role(&self) -> Role
+        ensures { result ≡ role_in self.now }
+    {
+        if self.node == 1 {
+            return Role::Node;
+        }
+        if self.overflow == 1 {
+            return Role::Overflow;
+        }
+        if self.trunk == 1 {
+            return Role::Trunk;
+        }
+        if self.free_leaf == 1 {
+            return Role::FreeLeaf;
+        }
+        Role::PointerMap
+    }
+
+    /// Where the one reference stands, where the sums are numbers of 32 bits.
+    fn source(&self) -> Option<Source>
+        ensures { IfSome result (λ source. source ≡ source_in self.now) }
+    {
+        if self.kind == 0 {
+            return Some(Source::Root);
+        }
+        let page = u32::try_from(self.page).ok()?;
+        if self.kind == 1 {
+            let cell = u32::try_from(self.cell).ok()?;
+            return Some(Source::Cell { page, cell });
+        }
+        Some(Source::Page(page))
+    }
+
+    /// The one reference to the page of that number, `Some(None)` where it hasn't one; `None` where its sums are no numbers
+    /// of 32 bits.
+    fn one(&self, page: u32) -> Option<Option<Target>>
+        ensures { IfSome result (λ one. one ≡ one_in page self.now) }
+    {
+        if self.all_of() != 1 {
+            return Some(None);
+        }
+        let source = self.source()?;
+        let rest = u32::try_from(self.rest).ok()?;
+        Some(Some(Target::new(page, self.role(), source, rest)))
+    }
+
     /// How many are of the role.
     fn many_of(&self, role: Role) -> u32
         ensures { result ≡ many_of self.now role }
@@ -225,6 +273,17 @@ impl Sums {
         }
     }
 
+    /// The one reference to page `no`, `Some(None)` where it hasn't one. `None` where a sum is no number of 32 bits, which no
+    /// reference that was counted alone leaves.
+    pub fn one(&self, no: u32) -> Option<Option<Target>>
+        ensures { IfSome result (λ one. one ≡ the_one self.now no) }
+    {
+        match rank_of(&self.held, no) {
+            Some(rank) => self.sums[rank].one(no),
+            None => Some(None),
+        }
+    }
+
     /// How many dead links there are.
     pub fn dead(&self) -> u64
         ensures { result ≡ self.now.dead }
@@ -276,7 +335,7 @@ impl Sums {
     }
 
     /// Whether the page of a pair is held and a reference names the pair.
-    fn is_marked(&self, pair: Pair) -> bool
+    pub fn is_marked(&self, pair: Pair) -> bool
         ensures { result ≡ is_marked_in self.now pair }
     {
         match rank_of(&self.held, pair.page) {
