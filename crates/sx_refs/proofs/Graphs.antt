@@ -266,6 +266,11 @@ pub graph_held : (size : ℕ) (view : ℕ → Option (List ℕ)) (layout : Layou
 unfolding graph_of
 graph_held size view layout roots = refl
 
+pub graph_roots : (size : ℕ) (view : ℕ → Option (List ℕ)) (layout : Layout) (roots : List ℤ)
+    → (graph_of size view layout roots).roots ≡ all_roots (held_pages size view) layout roots
+unfolding graph_of
+graph_roots size view layout roots = refl
+
 pub is_graph : (size : ℕ) (view : ℕ → Option (List ℕ)) (layout : Layout) (roots : List ℤ) → length (held_pages size view) < 2 ^ 32 → length roots < 2 ^ 61
     → layout.usable ≤ 65536 → IsGraph (graph_of size view layout roots)
 unfolding graph_of

@@ -1,13 +1,9 @@
 -- What the leaves of a freelist trunk page are, one more at a time; and which roles name nothing.
-use Rattle.std.proofs.Common.{◌≡◌, ℕ, ◌+◌, false, Option, Some, None, List, [], ◌∷◌, ◌++◌, refl, sym, ap, ◌∙◌, zero-add}
-use Rattle.std.specs.List.{flat_map, range_with_len}
-use Rattle.std.proofs.lemmas.List.{append-nil, map-id}
-use Rattle.std.proofs.lemmas.List.Concat.{flat_map-append}
+use Rattle.std.proofs.Common.{◌≡◌, ℕ, ◌+◌, false, Option, Some, None, List, [], ◌∷◌, ◌++◌, refl, zero-add}
 use Rattle.std.proofs.lemmas.List.FromFn.{map-range_with_len_more}
 use Rattle.sx_free.specs.Trunks.{TrunkPage, leaf_at}
 use Rattle.sx_base.specs.declared.role.Role.TheVariants.{Node, Overflow, Trunk, FreeLeaf, PointerMap}
 use Rattle.sx_closure.specs.declared.pair.Source.TheVariants.{Page as PageSource}
-use Rattle.sx_closure.specs.declared.pair.Target.{Target}
 use Rattle.std.proofs.lemmas.Bool.{true≢false}
 use Rattle.sx_base.specs.declared.role.Role.{Role}
 use Rattle.sx_closure.specs.declared.pair.Pair.{Pair}

@@ -1,21 +1,28 @@
 -- Where the pages that changed are steady, the table of the moment before is that of the next.
-use Rattle.std.proofs.Common.{◌≡◌, ℕ, zero, suc, ◌+◌, ◌-◌, ◌<◌, ◌≤◌, Bool, true, cond, ℤ, List, [], ◌∷◌, length, map, filter, get_or, Option, Some, None, is_some, ◌⊎◌, inl, inr, refl, sym, ap, subst, ◌∙◌, arith}
-use Rattle.std.specs.List.{Contains, range_with_len}
+use Rattle.std.proofs.Common.{◌≡◌, ℕ, suc, ◌+◌, ◌-◌, ◌<◌, ◌≤◌, true, ℤ, List, [], ◌∷◌, length, map, get_or, Option, Some, None, is_some, ◌⊎◌, inl, inr, refl, sym, ap, subst, ◌∙◌, arith}
+use Rattle.std.specs.List.{Contains}
 use Rattle.std.proofs.lemmas.Bool.{cases_eq, cases_lt}
 use Rattle.std.proofs.lemmas.List.{get_or_default}
 use Rattle.sx_base.specs.declared.layout.Layout.{Layout}
-use Rattle.sx_base.specs.Held.{held_pages}
 use Rattle.sx_base.specs.declared.role.Role.{Role}
 use Rattle.sx_base.specs.declared.role.Role.TheVariants.{Node, Overflow, Trunk, FreeLeaf, PointerMap}
 use Rattle.sx_closure.specs.declared.pair.Pair.{Pair}
-use Rattle.sx_closure.specs.Graph.{Graph, is_in, reached}
+use Rattle.sx_closure.specs.Graph.{Graph, IsGraph, is_in, reached}
 use Rattle.sx_closure.specs.Tallying.{Table, IsTableOf}
-use Rattle.sx_closure.proofs.Standing.{IsSameGraph, table_stands, reached_some, reached_one}
+use Rattle.sx_refs.proofs.SameGraph.{IsSameGraph, table_stands, reached_some, reached_one}
 use Rattle.sx_refs.specs.Targets.{targets_of}
 use Rattle.sx_refs.specs.Pages.{all_roots, if_held, graph_of}
 use Rattle.sx_refs.specs.Walks.{Covers}
-use Rattle.sx_refs.specs.Steady.{in_the_role, MayBe, NamesSame, IsSteady, AreSteady, HasUsable, IsKept}
+use Rattle.sx_refs.specs.Turning.{in_the_role, HasUsable}
+use Rattle.sx_refs.specs.Steady.{MayBe, NamesSame, IsSteady, AreSteady, IsStanding}
 use Rattle.sx_refs.proofs.Views.{Stand, map_at, none_there, first_or}
+use Rattle.sx_refs.specs.Keeping.{IsKept}
+use Rattle.sx_base.specs.Held.{held_pages}
+use Rattle.sx_refs.proofs.StepLemmas.{held_same, usable_at, has_usable, next_kept}
+use Rattle.sx_follow.specs.Widened.{widened}
+use Rattle.sx_closure.specs.declared.pair.Target.{Target}
+use Rattle.sx_follow.specs.Sums.{Sums}
+use Rattle.sx_follow.specs.Following.{HasFollowed}
 
 -- ---- one page
 
@@ -37,13 +44,6 @@ same_steady table usable page before now same = record {
 }
 
 -- ---- all pages
-
--- the view of a rank, as the code has it in hand
-pub view_at : {A : Type 0} (copied : A → Option (List ℕ)) (views : List A) (rank : ℕ) (none : A) → rank < length views
-    → copied (get_or views rank none) ≡ get_or (map copied views) rank None
-view_at copied [] rank none within = absurd (omega (arith, within))
-view_at copied (one ∷ views) zero none within = refl
-view_at copied (one ∷ views) (suc rank) none within = view_at copied views rank none (omega (arith, within))
 
 -- what holds below a number and at it holds below the next
 pub one_more : (P : ℕ → Type 0) (count : ℕ) → ((k : ℕ) → k < count → P k) → P count → (k : ℕ) → k < count + 1 → P k
@@ -91,15 +91,6 @@ module _ (table : Table) (usable : ℕ) (numbers : List ℕ) (views : List (Opti
 
 -- ---- the graph
 
-filter_same : (some others : ℕ → Bool) (xs : List ℕ) → ((x : ℕ) → some x ≡ others x) → filter some xs ≡ filter others xs
-filter_same some others [] same = refl
-filter_same some others (x ∷ xs) same =
-    ap (λ b. cond b (x ∷ filter some xs) (filter some xs)) (same x) ∙ ap (λ rest. cond (others x) (x ∷ rest) rest) (filter_same some others xs same)
-
-held_same : (size : ℕ) (view next : ℕ → Option (List ℕ)) → ((number : ℕ) → is_some (next number) ≡ is_some (view number)) → held_pages size view ≡ held_pages size next
-unfolding held_pages
-held_same size view next same = filter_same (λ number. is_some (view number)) (λ number. is_some (next number)) (range_with_len 1 size) (λ number. sym (same number))
-
 -- what is reached may be reached, as far as the table tells
 reached_may : (graph : Graph) (body : ℕ) (table : Table) (pair : Pair) → IsTableOf graph body table → is_in (reached graph) pair ≡ true → MayBe table pair.page pair.role
 reached_may graph body table pair is there = record {
@@ -120,7 +111,7 @@ same_graph size view next layout roots body table is steady =
 
 -- the table of the moment before is that of the next
 pub still_table : (numbers : List ℕ) (views : List (Option (List ℕ))) (size : ℕ) (layout : Layout) (roots : List ℤ) (table : Table) (next : ℕ → Option (List ℕ)) (changed : List ℕ)
-    → IsKept numbers views size layout roots table → Covers numbers next → Stand next numbers changed views → AreSteady table layout.usable numbers views next changed
+    → IsStanding numbers views size layout roots table → Covers numbers next → Stand next numbers changed views → AreSteady table layout.usable numbers views next changed
     → IsTableOf (graph_of size next layout roots) (layout.usable - 4) table
 still_table numbers views size layout roots table next changed kept covers stand steady =
     let each = all_steady table layout.usable numbers views kept.view next changed kept.covered covers kept.views_are stand steady in
@@ -129,27 +120,16 @@ still_table numbers views size layout roots table next changed kept covers stand
 
 -- ---- what is kept of a moment
 
-usable_at : (usable : ℕ) (view : ℕ → Option (List ℕ)) (numbers : List ℕ) (rank : ℕ) → ((number : ℕ) → HasUsable usable (view number))
-    → HasUsable usable (get_or (map view numbers) rank None)
-usable_at usable view [] rank each = tt
-usable_at usable view (number ∷ numbers) zero each = each number
-usable_at usable view (number ∷ numbers) (suc rank) each = usable_at usable view numbers rank each
-
-pub kept_usable : (numbers : List ℕ) (views : List (Option (List ℕ))) (size : ℕ) (layout : Layout) (roots : List ℤ) (table : Table)
-    → IsKept numbers views size layout roots table → (rank : ℕ) → HasUsable layout.usable (get_or views rank None)
-kept_usable numbers views size layout roots table kept rank =
+pub standing_usable : (numbers : List ℕ) (views : List (Option (List ℕ))) (size : ℕ) (layout : Layout) (roots : List ℤ) (table : Table)
+    → IsStanding numbers views size layout roots table → (rank : ℕ) → HasUsable layout.usable (get_or views rank None)
+standing_usable numbers views size layout roots table kept rank =
     subst (λ all. HasUsable layout.usable (get_or all rank None)) (sym kept.views_are) (usable_at layout.usable kept.view numbers rank kept.usable)
 
-has_usable : (usable page_size : ℕ) (view : Option (List ℕ)) → usable ≤ page_size → page_size ≤ 65536 → ((page : List ℕ) → view ≡ Some page → length page ≡ page_size)
-    → HasUsable usable view
-has_usable usable page_size None within small whole = tt
-has_usable usable page_size (Some page) within small whole = let long = whole page refl in (omega (arith, long, within), omega (arith, long, small))
-
-pub next_kept : (numbers : List ℕ) (views : List (Option (List ℕ))) (size : ℕ) (layout : Layout) (roots : List ℤ) (table : Table) (next : ℕ → Option (List ℕ)) (page_size : ℕ)
+pub next_standing : (numbers : List ℕ) (views : List (Option (List ℕ))) (size : ℕ) (layout : Layout) (roots : List ℤ) (table : Table) (next : ℕ → Option (List ℕ)) (page_size : ℕ)
     → Covers numbers next → views ≡ map next numbers → layout.usable ≤ page_size → page_size ≤ 65536
     → ((number : ℕ) (page : List ℕ) → next number ≡ Some page → length page ≡ page_size) → IsTableOf (graph_of size next layout roots) (layout.usable - 4) table
-    → IsKept numbers views size layout roots table
-next_kept numbers views size layout roots table next page_size covered are within small whole is = record {
+    → IsStanding numbers views size layout roots table
+next_standing numbers views size layout roots table next page_size covered are within small whole is = record {
   view = next;
   covered = covered;
   views_are = are;
@@ -165,3 +145,44 @@ other_setting size layout roots size_now layout_now roots_now view table sizes l
     subst (λ n. IsTableOf (graph_of n view layout_now roots_now) (layout_now.usable - 4) table) sizes
     (subst (λ some. IsTableOf (graph_of size view layout_now some) (layout_now.usable - 4) table) rootses
     (subst (λ some. IsTableOf (graph_of size view some roots) (some.usable - 4) table) layouts is))
+
+-- the same table stands for the next moment
+module _ (numbers : List ℕ) (views : List (Option (List ℕ))) (size : ℕ) (layout : Layout) (roots : List ℤ) (table : Table) (next : ℕ → Option (List ℕ)) (changed : List ℕ)
+    (size_now : ℕ) (layout_now : Layout) (roots_now : List ℤ) (kept : IsStanding numbers views size layout roots table) (covers : Covers numbers next) (stand : Stand next numbers changed views)
+    (steady : AreSteady table layout_now.usable numbers views next changed) (sizes : size ≡ size_now) (layouts : layout ≡ layout_now) (rootses : roots ≡ roots_now) where
+  before : IsTableOf (graph_of size next layout roots) (layout.usable - 4) table
+  before =
+      still_table numbers views size layout roots table next changed kept covers stand
+      (subst (λ some. AreSteady table some.usable numbers views next changed) (sym layouts) steady)
+
+  pub still_is : IsTableOf (graph_of size_now next layout_now roots_now) (layout_now.usable - 4) table
+  still_is = other_setting size layout roots size_now layout_now roots_now next table sizes layouts rootses before
+
+  pub still_standing : (page_size : ℕ) → layout_now.usable ≤ page_size → page_size ≤ 65536 → ((number : ℕ) (page : List ℕ) → next number ≡ Some page → length page ≡ page_size)
+      → IsStanding numbers (map next numbers) size layout roots table
+  still_standing page_size within small whole =
+      next_standing numbers (map next numbers) size layout roots table next page_size covers refl (subst (λ some. some.usable ≤ page_size) (sym layouts) within) small whole before
+
+-- what is known of a moment, as a walk keeps it
+pub one_kept : (numbers : List ℕ) (views : List (Option (List ℕ))) (size : ℕ) (layout : Layout) (roots : List ℤ) (table : Table) (next : ℕ → Option (List ℕ))
+    (size_now : ℕ) (layout_now : Layout) (roots_now : List ℤ) (page_size : ℕ) → Covers numbers next → views ≡ map next numbers → layout_now.usable ≤ page_size → page_size ≤ 65536
+    → ((number : ℕ) (page : List ℕ) → next number ≡ Some page → length page ≡ page_size) → size ≡ size_now → layout ≡ layout_now → roots ≡ roots_now
+    → IsTableOf (graph_of size_now next layout_now roots_now) (layout_now.usable - 4) table → IsStanding numbers views size layout roots table
+one_kept numbers views size layout roots table next size_now layout_now roots_now page_size covered are within small whole sizes layouts rootses is =
+    next_standing numbers views size layout roots table next page_size covered are (subst (λ some. some.usable ≤ page_size) (sym layouts) within) small whole
+    (other_setting size_now layout_now roots_now size layout roots next table (sym sizes) (sym layouts) (sym rootses) is)
+
+-- with sums
+pub both_kept : (numbers : List ℕ) (views : List (Option (List ℕ))) (size : ℕ) (layout : Layout) (roots : List ℤ) (table : Table) (sums : Sums) (trail : List Target) (next : ℕ → Option (List ℕ))
+    (size_now : ℕ) (layout_now : Layout) (roots_now : List ℤ) (page_size : ℕ) → Covers numbers next → views ≡ map next numbers → layout_now.usable ≤ page_size → page_size ≤ 65536
+    → ((number : ℕ) (page : List ℕ) → next number ≡ Some page → length page ≡ page_size) → ((number : ℕ) → size_now < number → next number ≡ None) → next 0 ≡ None
+    → size ≡ size_now → layout ≡ layout_now → roots ≡ roots_now
+    → IsGraph (graph_of size_now next layout_now roots_now) → IsGraph (widened numbers (graph_of size_now next layout_now roots_now))
+    → IsTableOf (graph_of size_now next layout_now roots_now) (layout_now.usable - 4) table
+    → HasFollowed (widened numbers (graph_of size_now next layout_now roots_now)) sums → trail ≡ all_roots (held_pages size_now next) layout_now roots_now
+    → IsStanding numbers views size layout roots table × IsKept numbers views layout.usable table sums trail
+both_kept numbers views size layout roots table sums trail next size_now layout_now roots_now page_size covered are fits small whole within from_one sizes layouts rootses good wide is followed trail_is = (
+  one_kept numbers views size layout roots table next size_now layout_now roots_now page_size covered are fits small whole sizes layouts rootses is,
+  next_kept numbers views size_now layout_now roots_now table sums trail next page_size layout.usable (ap (λ some. some.usable) (sym layouts)) covered are fits small whole within from_one good wide
+      is followed trail_is,
+)

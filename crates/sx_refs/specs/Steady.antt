@@ -1,19 +1,15 @@
 -- When a page that changed leaves the table of the references as it is: it is held as before, and names what it named in
 -- each role in which it may be reached.
-use Rattle.std.specs.Prelude.{◌≡◌, ℕ, ◌-◌, ◌<◌, ◌≤◌, ℤ, List, length, map, slice_index, slice_index_or, Option, Some, None, is_some, ⊤}
+use Rattle.std.specs.Prelude.{◌≡◌, ℕ, ◌-◌, ◌<◌, ℤ, Bool, true, false, List, map, slice_index, slice_index_or, Option, Some, None, is_some, ⊤}
 use Rattle.std.specs.List.{Contains}
 use Rattle.sx_base.specs.declared.layout.Layout.{Layout}
 use Rattle.sx_base.specs.declared.role.Role.{Role}
-use Rattle.sx_closure.specs.declared.pair.Pair.{Pair}
 use Rattle.sx_closure.specs.declared.pair.Target.{Target}
 use Rattle.sx_closure.specs.Tallying.{Table, count_at, one_at, IsTableOf}
 use Rattle.sx_refs.specs.Targets.{targets_of}
 use Rattle.sx_refs.specs.Pages.{if_held, graph_of}
+use Rattle.sx_refs.specs.Turning.{in_the_role, HasUsable}
 use Rattle.sx_refs.specs.Walks.{Covers}
-
--- a page in a role
-abbrev pub in_the_role : ℕ → Role → Pair
-in_the_role page role = record { page = page; role = role }
 
 -- as far as the table tells, the page may be reached in the role: it has references, and where it has one, of that role
 pub record MayBe (table : Table) (page : ℕ) (role : Role) : Type 0 where
@@ -35,15 +31,15 @@ abbrev pub AreSteady : Table → ℕ → List ℕ → List (Option (List ℕ)) �
 AreSteady table usable numbers views view changed =
     (rank : ℕ) → Contains changed rank → IsSteady table usable (slice_index numbers rank) (slice_index_or views rank None) (view (slice_index numbers rank))
 
--- a view, where there is one, has the usable bytes, and is no longer than a page may be
-abbrev pub HasUsable : ℕ → Option (List ℕ) → Type 0
-HasUsable usable None = ⊤
-HasUsable usable (Some page) = (usable ≤ length page) × (length page ≤ 65536)
-
 -- the table is that of the pages of a moment with these views by rank, this size, layout and roots
-pub record IsKept (numbers : List ℕ) (views : List (Option (List ℕ))) (size : ℕ) (layout : Layout) (roots : List ℤ) (table : Table) : Type 0 where
+pub record IsStanding (numbers : List ℕ) (views : List (Option (List ℕ))) (size : ℕ) (layout : Layout) (roots : List ℤ) (table : Table) : Type 0 where
   pub view : ℕ → Option (List ℕ)
   pub covered : Covers numbers view
   pub views_are : views ≡ map view numbers
   pub usable : (number : ℕ) → HasUsable layout.usable (view number)
   pub table_is : IsTableOf (graph_of size view layout roots) (layout.usable - 4) table
+
+-- so it is, where it is said to
+abbrev pub IfStanding : Bool → List ℕ → List (Option (List ℕ)) → ℕ → Layout → List ℤ → Table → Type 0
+IfStanding false numbers views size layout roots table = ⊤
+IfStanding true numbers views size layout roots table = IsStanding numbers views size layout roots table

@@ -1,6 +1,6 @@
 -- What a page in a role names, each target with its source ("B-tree Pages", "Cell Payload Overflow Pages", "The
 -- Freelist").
-use Rattle.std.specs.Prelude.{ℕ, ◌==◌, if◌then◌else◌, Bool, true, false, List, [], ◌∷◌, ◌++◌, map, Option, Some, None, Result, Ok, Err}
+use Rattle.std.specs.Prelude.{ℕ, ◌==◌, if◌then◌else◌, Bool, true, false, List, [], ◌∷◌, ◌++◌, map, Result, Ok, Err}
 use Rattle.std.specs.List.{range_with_len}
 use Rattle.sx_base.specs.Bytes.{word_at}
 use Rattle.sx_node.specs.declared.node.NodeFault.{NodeFault}

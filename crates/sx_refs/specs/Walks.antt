@@ -17,6 +17,11 @@ pub record Walk : Type 0 where
 abbrev pub Covers : List ℕ → (ℕ → Option (List ℕ)) → Type 0
 Covers numbers view = (number : ℕ) → is_some (view number) ≡ true → Contains numbers number
 
+-- a page whose rank isn't listed has the view that a list has of it
+abbrev pub RanksStand : List ℕ → List ℕ → List (Option (List ℕ)) → (ℕ → Option (List ℕ)) → Type 0
+RanksStand changed numbers views view = (rank : ℕ) → rank < length numbers → (Contains changed rank → ⊥)
+    → slice_index_or views rank None ≡ view (slice_index numbers rank)
+
 -- a page whose rank isn't listed has the view that is kept of it
 abbrev pub StandBut : List ℕ → Walk → (ℕ → Option (List ℕ)) → Type 0
 StandBut changed walk view = (rank : ℕ) → rank < length walk.numbers → (Contains changed rank → ⊥)

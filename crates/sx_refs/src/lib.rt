@@ -1,8 +1,13 @@
 //! What refers to each page of a moment.
 #![tactic(auto)]
 
+mod anew;
+mod exchange;
+mod gather;
 mod pages;
+mod renew;
 mod steady;
+mod step;
 mod targets;
 mod walk;
 

@@ -1,19 +1,58 @@
 //! Whether a page that changed names what it named.
-ghost use Rattle.std.specs.Prelude.{◌≡◌, ◌<◌, ◌≤◌, IsTrue, length, option_copied, IfOk};
+ghost use Rattle.std.specs.Prelude.{◌≡◌, ℕ, ◌<◌, ◌≤◌, Option, None, IsTrue, map, length, slice_index_or, option_copied, IfOk};
+ghost use Rattle.std.specs.List.{All};
 ghost use Rattle.sx_base.specs.declared.role.Role.{Role as AnyRole};
-ghost use Rattle.sx_refs.specs.Targets.{targets_of};
-ghost use Rattle.sx_refs.specs.Steady.{MayBe, NamesSame, IsSteady, HasUsable};
+ghost use Rattle.sx_refs.specs.Turning.{HasUsable};
+ghost use Rattle.sx_refs.specs.Steady.{MayBe, NamesSame, IsSteady, AreSteady};
 
-use crate::targets::give_targets;
+use crate::exchange::names_of;
 use std::alloc::{AllocError, Global};
-use sx_base::Role;
-use sx_closure::{Kept, Pair, RefTable};
+use sx_base::{Pages, Role};
+use sx_closure::{Pair, RefTable};
+
+/// Whether each page whose rank is listed is held as at the moment before, and names what it named in each
+/// role in which the table lets it be reached.
+///
+/// The cost is that of reading both views of each page. It answers `AllocError` where memory runs out.
+pub(crate) fn all_steady<'a, P: Pages<'a>>(
+    alloc: Global,
+    pages: &P,
+    table: &RefTable,
+    usable: u32,
+    numbers: &[u32],
+    views: &[Option<&'a [u8]>],
+    changed: &[u32],
+) -> Result<bool, AllocError>
+    requires long { length views.now ≡ length numbers.now }
+    requires ranks { All (λ rank. rank < length numbers.now) changed.now }
+    requires least { 480 ≤ usable }
+    requires within { usable ≤ P.page_size pages.now }
+    requires small { P.page_size pages.now ≤ 65536 }
+    requires before { (rank : ℕ) → HasUsable usable (slice_index_or (map option_copied views.now) rank None) }
+    ensures { IfOk result (λ steady. IsTrue steady → AreSteady table.now usable numbers.now (map option_copied views.now) (P.view pages.now) changed.now) }
+{
+    for rank in changed {
+        let rank = *rank as usize;
+        let number = numbers[rank];
+        if !is_steady(
+            alloc,
+            table,
+            usable,
+            number,
+            views[rank],
+            pages.page(number),
+        )? {
+            return Ok(false);
+        }
+    }
+    Ok(true)
+}
 
 /// Whether page `no` is held as before, and names what it named in each role in which the table of the moment before lets
 /// it be reached.
 ///
 /// The cost is that of reading both views. It answers `AllocError` where memory runs out.
-pub(crate) fn is_steady(
+fn is_steady(
     alloc: Global,
     table: &RefTable,
     usable: u32,
@@ -94,15 +133,4 @@ fn may_be(table: &RefTable, no: u32, role: Role) -> bool
         Some(one) => one == role,
         None => true,
     }
-}
-
-/// What a pair names.
-fn names_of(alloc: Global, usable: u32, pair: Pair, bytes: &[u8]) -> Result<Kept, AllocError>
-    requires least { 480 ≤ usable }
-    requires bytes { (usable ≤ length bytes.now) × (length bytes.now ≤ 65536) }
-    ensures { IfOk result (λ names. names ≡ targets_of bytes.now pair usable) }
-{
-    let mut names = Kept::new(alloc);
-    give_targets(bytes, pair, usable, &mut names)?;
-    Ok(names)
 }

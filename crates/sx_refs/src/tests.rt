@@ -195,38 +195,81 @@ fn a_freelist_and_a_pointer_map(rt: HostRuntime) -> Result<(), Fail> {
     assert_table(&rt, alloc, &sheets, &layout(4, true, 3), &[], &want, 1)
 }
 
-/// What is said of the one page of a moment, and then of the next moment; and whether the table stood.
+/// Whether the walk says of each of the five pages what `references` says, and of how many it may say something else than
+/// at the moment before.
+fn stands<'a>(
+    rt: &impl Abort,
+    alloc: Global,
+    walk: &RefWalk<'a>,
+    sheets: &[&'a [u8]],
+    roots: &[i64],
+) -> Result<Option<usize>, Fail> {
+    let layout = layout(5, false, 0);
+    assert!(rt; sheets.len() == 5);
+    assert!(rt; layout.page_size == 512 && layout.usable == 512);
+    let table = references(alloc, &Sheets::new(512, sheets), &layout, roots)?;
+    for no in 1..6 {
+        assert_eq!(rt; said(walk.table(), no), said(&table, no), "page {}", no);
+    }
+    assert_eq!(rt; walk.table().dead(), table.dead());
+    Ok(match walk.touched() {
+        Some(ranks) => Some(ranks.len()),
+        None => None,
+    })
+}
+
+/// Of how many of five pages the table may say something else at the second of two moments than at the first, to which the
+/// walk has gone by a step.
 fn walked<'a>(
     rt: &impl Abort,
     alloc: Global,
-    old: &[&'a [u8]],
-    new: &[&'a [u8]],
-) -> Result<(Said, Said, bool), Fail> {
-    let layout = layout(1, false, 0);
-    assert!(rt; old.len() == 1);
-    assert!(rt; new.len() == 1);
+    first: &[&'a [u8]],
+    second: &[&'a [u8]],
+) -> Result<Option<usize>, Fail> {
+    let layout = layout(5, false, 0);
+    assert!(rt; first.len() == 5);
+    assert!(rt; second.len() == 5);
     assert!(rt; layout.page_size == 512 && layout.usable == 512);
-    let mut walk = RefWalk::start(alloc, &Sheets::new(512, old), &[1], &layout, &[])?;
-    let first = said(walk.table(), 1);
-    walk.advance(&Sheets::new(512, new), &[0], &layout, &[])?;
-    let stood = walk.touched().is_some();
-    Ok((first, said(walk.table(), 1), stood))
+    let mut walk = RefWalk::start(
+        alloc,
+        &Sheets::new(512, first),
+        &[1, 2, 3, 4, 5],
+        &layout,
+        &[2],
+    )?;
+    assert_eq!(rt; stands(rt, alloc, &walk, first, &[2])?, None);
+    // nothing is counted where nothing is named otherwise
+    walk.advance(&Sheets::new(512, first), &[0, 1, 2, 3, 4], &layout, &[2])?;
+    assert_eq!(rt; stands(rt, alloc, &walk, first, &[2])?, Some(0));
+    walk.advance(&Sheets::new(512, first), &[0, 1, 2, 3, 4], &layout, &[2, 3])?;
+    assert_eq!(rt; stands(rt, alloc, &walk, first, &[2, 3])?, None);
+    walk.advance(
+        &Sheets::new(512, second),
+        &[0, 1, 2, 3, 4],
+        &layout,
+        &[2, 3],
+    )?;
+    stands(rt, alloc, &walk, second, &[2, 3])
 }
 
 #[test]
 fn a_walk_goes_on_with_the_pages_that_changed(rt: HostRuntime) -> Result<(), Fail> {
-    let leaf = first(&rt);
-    let own_child = page_with(
-        &rt,
-        100,
-        b"\x05\x00\x00\x00\x00\x00\x00\x00\x00\x00\x00\x01",
-    );
-    let said = walked(&rt, rt.alloc(), &[&own_child], &[&leaf])?;
-    assert_eq!(rt; said, ((2, None, None), ROOT, false));
-    // in other roles it names another page now
+    let alloc = rt.alloc();
+    let (head, leaf) = (first(&rt), page_with(&rt, 0, b"\x0d"));
+    let (both, none) = (interior(&rt, 4, 5), interior(&rt, 0, 0));
+    let (last, moved) = (interior(&rt, 5, 0), interior(&rt, 4, 0));
     let mut other = leaf;
-    other[3] = 1;
-    let said = walked(&rt, rt.alloc(), &[&leaf], &[&other])?;
-    assert_eq!(rt; said, (ROOT, ROOT, true));
+    other[300] = 1;
+    let before: [&[u8]; 5] = [&head, &both, &none, &leaf, &leaf];
+    let after: [&[u8]; 5] = [&head, &last, &moved, &leaf, &leaf];
+    let written: [&[u8]; 5] = [&head, &last, &moved, &other, &leaf];
+    // a leaf moves from one interior page to the other, and then bytes change that name nothing
+    assert_eq!(rt; walked(&rt, alloc, &before, &after)?, Some(2));
+    assert_eq!(rt; walked(&rt, alloc, &after, &written)?, Some(0));
+    // two interior pages that name each other have lost their root
+    let (one, two) = (interior(&rt, 0, 5), interior(&rt, 0, 4));
+    let circle: [&[u8]; 5] = [&head, &both, &none, &one, &two];
+    let lost: [&[u8]; 5] = [&head, &none, &none, &one, &two];
+    assert_eq!(rt; walked(&rt, alloc, &circle, &lost)?, None);
     Ok(())
 }

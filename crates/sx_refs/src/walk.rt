@@ -1,17 +1,24 @@
 //! What refers to each page, at one moment after the other.
-ghost use Rattle.std.specs.Prelude.{◌≡◌, ℕ, ◌-◌, ◌<◌, ◌≤◌, Option, None, IsTrue, map, length, fold, slice_index_or, option_copied, IfOk, OnOk};
+ghost use Rattle.std.specs.Prelude.{◌≡◌, ℕ, ◌-◌, ◌<◌, ◌≤◌, ◌^◌, Option, None, IsTrue, true, map, length, slice_index_or, option_copied, IfOk, IfSome, OnOk};
 ghost use Rattle.std.specs.List.{All};
 ghost use Rattle.sx_closure.specs.Graph.{Rises};
-ghost use Rattle.sx_refs.specs.Pages.{graph_of};
-ghost use Rattle.sx_refs.specs.Walks.{Covers, StandBut, SayOther, StandsAt, looked};
-ghost use Rattle.sx_refs.specs.Steady.{AreSteady, HasUsable};
+ghost use Rattle.sx_base.specs.Held.{held_pages};
+ghost use Rattle.sx_refs.specs.Pages.{all_roots, graph_of};
+ghost use Rattle.sx_closure.specs.Tallying.{IsTableOf};
+ghost use Rattle.sx_refs.specs.Walks.{Covers, RanksStand, StandBut, SayOther, StandsAt};
+ghost use Rattle.sx_refs.specs.Keeping.{IfKept};
+ghost use Rattle.sx_refs.specs.Steady.{IsStanding, IfStanding};
+ghost use Rattle.sx_refs.specs.Stepping.{HasStepped};
 
+use crate::anew::count_anew;
 use crate::pages::references;
-use crate::steady::is_steady;
+use crate::steady::all_steady;
+use crate::step::{Step, follow_step};
 use std::alloc::{AllocError, Global};
 use std::marker::Model;
 use sx_base::{Layout, Pages};
-use sx_closure::RefTable;
+use sx_closure::{Kept, RefTable};
+use sx_follow::Sums;
 
 /// What refers to each page of a moment, for a walk over moments that hold pages of one list of numbers.
 ///
@@ -23,26 +30,34 @@ pub struct RefWalk<'a> {
     views: Vec<Option<&'a [u8]>>,
     setting: Setting,
     table: RefTable,
+    // Whether the table and the views are those of the moment: not so where memory ran out on the way to it.
+    stands: bool,
+    sums: Option<Sums>,
+    // The root targets that the sums have, where there are sums.
+    trail: Kept,
     touched: Option<Vec<u32>>,
 }
 
 impl<'a> Model for RefWalk<'a> {
     ghost use Rattle.std.specs.Prelude.{◌≡◌, length, map, option_map, option_copied};
+    ghost use Rattle.sx_closure.specs.Graph.{Rises};
     ghost use Rattle.sx_refs.specs.Walks.{Walk};
-    ghost use Rattle.sx_refs.specs.Steady.{IsKept};
+    ghost use Rattle.sx_refs.specs.Keeping.{IfKept};
+    ghost use Rattle.sx_refs.specs.Steady.{IfStanding};
 
     ghost Value = { Walk };
 
     ghost view = { λ walk. record { numbers = walk.numbers.items; views = map option_copied walk.views.items; table = walk.table; touched = option_map (λ ranks. ranks.items) walk.touched } };
 
-    ghost invariant = { λ walk. (length walk.views.items ≡ length walk.numbers.items) × IsKept walk.numbers.items (map option_copied walk.views.items) walk.setting.size walk.setting.layout walk.setting.roots.items walk.table };
+    ghost invariant = { λ walk. Rises walk.numbers.items × (length walk.views.items ≡ length walk.numbers.items) × IfStanding walk.stands walk.numbers.items (map option_copied walk.views.items) walk.setting.size walk.setting.layout walk.setting.roots.items walk.table × IfKept walk.numbers.items (map option_copied walk.views.items) walk.setting.layout.usable walk.table walk.sums walk.trail };
 }
 
 impl<'a> RefWalk<'a> {
-    /// Counts what refers to each page of the first moment, as [`references`] does.
+    /// Counts what refers to each page of the first moment, as [`references`](crate::references) does.
     ///
-    /// The numbers rise, and each page with a view is among them. The cost is that of [`references`] and a look at each
-    /// number; 20 bytes a number and the roots are taken besides. It answers `AllocError` where memory runs out.
+    /// The numbers rise, and each page with a view is among them. The cost is that of [`references`](crate::references) and a
+    /// look at each number; 20 bytes a number and the roots are taken besides, and 120 bytes a number once a step can be
+    /// followed. It answers `AllocError` where memory runs out.
     pub fn start<P: Pages<'a>>(
         alloc: Global,
         pages: &P,
@@ -70,6 +85,9 @@ impl<'a> RefWalk<'a> {
             views,
             setting,
             table,
+            stands: true,
+            sums: None,
+            trail: Kept::new(alloc),
             touched: None,
         })
     }
@@ -79,10 +97,16 @@ impl<'a> RefWalk<'a> {
     /// Each page with a view is among the numbers; `changed` has ranks, and a page whose rank isn't there has the view
     /// that it had at the moment before.
     ///
-    /// Where the size, the layout and the roots are those of the moment before, and each changed page is held as before and
-    /// names what it named in each role in which it may be reached, the table stands: the cost is that of reading the
-    /// changed pages twice. Else it is that of [`references`] and a look at each changed page. Where it answers
-    /// `AllocError`, for want of memory, nothing more is said of the walk.
+    /// Where the page size and the usable bytes are those of the moment before, each page that lost a reference still has a way
+    /// of single ones from a root, and no overflow page has another reference, the table is followed, also where pages come
+    /// into view or go out of it: the cost is that of reading the changed pages twice, of a few look-ups for each reference
+    /// that comes or goes, and of one for each number. Else it is that of [`references`](crate::references) and a look at each
+    /// changed page; and twice that of the first where the page size and the usable bytes are the same, as at the first such
+    /// step behind another: then the references are counted a second time, so that the next step can follow them. But as long
+    /// as there is nothing to follow, nothing is counted where the size, the layout and the roots are the same, and each
+    /// changed page is held as before and names what it named, in each role in which it may be reached: the table stands, at
+    /// the cost of reading the changed pages twice. Where it answers `AllocError`, for want of memory, nothing more is said of
+    /// the walk but that it goes on.
     pub fn advance<P: Pages<'a>>(
         &mut self,
         pages: &P,
@@ -101,28 +125,60 @@ impl<'a> RefWalk<'a> {
         ensures stands { OnOk result (StandsAt (P.view pages.now) (graph_of (P.pages pages.now) (P.view pages.now) layout.now roots.now) (layout.now.usable - 4) self.new) }
         ensures touched { OnOk result (SayOther self.new.numbers self.old.table self.new.table self.new.touched) }
     {
-        let size = pages.size();
-        if self.setting.is(size, layout, roots)
-            && all_steady(
+        let sums = self.sums.take();
+        if sums.is_none()
+            && stands_still(
                 self.alloc,
                 pages,
-                &self.table,
-                layout.usable,
                 &self.numbers,
-                &self.views,
                 changed,
+                &self.views,
+                self.stands,
+                &self.setting,
+                layout,
+                roots,
+                &self.table,
             )?
         {
             look_again(pages, &self.numbers, changed, &mut self.views);
             self.touched = Some(Vec::new(self.alloc));
             return Ok(());
         }
-        let table = references(self.alloc, pages, layout, roots)?;
-        let setting = Setting::new(self.alloc, size, layout, roots)?;
-        look_again(pages, &self.numbers, changed, &mut self.views);
-        self.setting = setting;
-        self.table = table;
+        self.stands = false;
+        let size = pages.size();
+        let fits = self.setting.fits(layout) && is_few(&self.numbers);
+        let found = step_from(
+            self.alloc,
+            pages,
+            &self.numbers,
+            changed,
+            &mut self.views,
+            &self.setting,
+            layout,
+            roots,
+            sums,
+            &self.trail,
+            &mut self.table,
+        )?;
+        self.setting = Setting::new(self.alloc, size, layout, roots)?;
+        if let Some(step) = found {
+            self.sums = Some(step.sums);
+            self.trail = step.roots;
+            self.touched = Some(step.touched);
+            self.stands = true;
+            return Ok(());
+        }
         self.touched = None;
+        if fits {
+            let counted = count_anew(self.alloc, pages, &self.numbers, layout, roots)?;
+            self.table = counted.table;
+            self.sums = Some(counted.sums);
+            self.trail = counted.roots;
+            self.stands = true;
+            return Ok(());
+        }
+        self.table = references(self.alloc, pages, layout, roots)?;
+        self.stands = true;
         Ok(())
     }
 
@@ -175,6 +231,13 @@ impl Setting {
         }
         same_roots(&self.roots, roots)
     }
+
+    /// Whether a moment with this layout may be followed: it has pages of the same size with the same usable bytes.
+    fn fits(&self, layout: &Layout) -> bool
+        ensures { IsTrue result → self.now.layout.usable ≡ layout.now.usable }
+    {
+        self.layout.usable == layout.usable && self.layout.page_size == layout.page_size
+    }
 }
 
 /// Whether two lists of roots are the same.
@@ -184,39 +247,92 @@ fn same_roots(some: &[i64], others: &[i64]) -> bool
     some == others
 }
 
-/// Whether each page whose rank is listed is held as at the moment before, and names what it named.
-fn all_steady<'a, P: Pages<'a>>(
+/// Whether the table of the moment before is that of the next too: it has the same size, layout and roots, and each page that
+/// changed is held as before and names what it named, in each role in which it may be reached.
+fn stands_still<'a, P: Pages<'a>>(
     alloc: Global,
     pages: &P,
-    table: &RefTable,
-    usable: u32,
     numbers: &[u32],
-    views: &[Option<&'a [u8]>],
     changed: &[u32],
+    views: &[Option<&'a [u8]>],
+    stands: bool,
+    setting: &Setting,
+    layout: &Layout,
+    roots: &[i64],
+    table: &RefTable,
 ) -> Result<bool, AllocError>
     requires long { length views.now ≡ length numbers.now }
     requires ranks { All (λ rank. rank < length numbers.now) changed.now }
-    requires least { 480 ≤ usable }
-    requires within { usable ≤ P.page_size pages.now }
+    requires covered { Covers numbers.now (P.view pages.now) }
+    requires stand { RanksStand changed.now numbers.now (map option_copied views.now) (P.view pages.now) }
+    requires least { 480 ≤ layout.now.usable }
+    requires within { layout.now.usable ≤ P.page_size pages.now }
     requires small { P.page_size pages.now ≤ 65536 }
-    requires before { (rank : ℕ) → HasUsable usable (slice_index_or (map option_copied views.now) rank None) }
-    ensures { IfOk result (λ steady. IsTrue steady → AreSteady table.now usable numbers.now (map option_copied views.now) (P.view pages.now) changed.now) }
+    requires standing { IfStanding stands numbers.now (map option_copied views.now) setting.now.size setting.now.layout setting.now.roots.items table.now }
+    ensures table { IfOk result (λ still. IsTrue still → IsTableOf (graph_of (P.pages pages.now) (P.view pages.now) layout.now roots.now) (layout.now.usable - 4) table.now) }
+    ensures standing { IfOk result (λ still. IsTrue still → (stands ≡ true) × IsStanding numbers.now (map (P.view pages.now) numbers.now) setting.now.size setting.now.layout setting.now.roots.items table.now) }
 {
-    for rank in changed {
-        let rank = *rank as usize;
-        let number = numbers[rank];
-        if !is_steady(
-            alloc,
-            table,
-            usable,
-            number,
-            views[rank],
-            pages.page(number),
-        )? {
-            return Ok(false);
-        }
+    if !stands || !setting.is(pages.size(), layout, roots) {
+        return Ok(false);
+    }
+    if !all_steady(alloc, pages, table, layout.usable, numbers, views, changed)? {
+        return Ok(false);
     }
     Ok(true)
+}
+
+/// Follows the table and the sums to the next moment, where there are sums and the setting fits, and takes the views that
+/// changed anew in any case. `None` where the moment can't be followed: then the table is of no use.
+fn step_from<'a, P: Pages<'a>>(
+    alloc: Global,
+    pages: &P,
+    numbers: &[u32],
+    changed: &[u32],
+    views: &mut Vec<Option<&'a [u8]>>,
+    setting: &Setting,
+    layout: &Layout,
+    roots: &[i64],
+    sums: Option<Sums>,
+    trail: &Kept,
+    table: &mut RefTable,
+) -> Result<Option<Step>, AllocError>
+    requires rises { Rises numbers.now }
+    requires long { length views.old.items ≡ length numbers.now }
+    requires ranks { All (λ rank. rank < length numbers.now) changed.now }
+    requires covered { Covers numbers.now (P.view pages.now) }
+    requires stand { RanksStand changed.now numbers.now (map option_copied views.old.items) (P.view pages.now) }
+    requires page_size { 0 < layout.now.page_size }
+    requires least { 480 ≤ layout.now.usable }
+    requires within { layout.now.usable ≤ P.page_size pages.now }
+    requires small { P.page_size pages.now ≤ 65536 }
+    requires kept { IfKept numbers.now (map option_copied views.old.items) setting.now.layout.usable table.old sums trail.now }
+    ensures views { IfOk result (λ _. map option_copied views.new.items ≡ map (P.view pages.now) numbers.now) }
+    ensures long { length views.new.items ≡ length numbers.now }
+    ensures stepped { IfOk result (λ found. IfSome found (λ step. HasStepped (graph_of (P.pages pages.now) (P.view pages.now) layout.now roots.now) (layout.now.usable - 4) numbers.now table.old table.new step.sums step.touched.items)) }
+    ensures roots { IfOk result (λ found. IfSome found (λ step. step.roots ≡ all_roots (held_pages (P.pages pages.now) (P.view pages.now)) layout.now roots.now)) }
+{
+    match sums {
+        Some(sums) => {
+            if setting.fits(layout) {
+                return follow_step(
+                    alloc, pages, numbers, changed, views, layout, roots, sums, trail, table,
+                );
+            }
+            look_again(pages, numbers, changed, views);
+            Ok(None)
+        }
+        None => {
+            look_again(pages, numbers, changed, views);
+            Ok(None)
+        }
+    }
+}
+
+/// Whether there are fewer numbers than there are numbers of 32 bits.
+fn is_few(numbers: &[u32]) -> bool
+    ensures { IsTrue result → length numbers.now < 2 ^ 32 }
+{
+    numbers.len() <= u32::MAX as usize
 }
 
 /// The view of each of these pages.
@@ -243,7 +359,8 @@ fn look_again<'a, P: Pages<'a>>(
 )
     requires long { length views.old.items ≡ length numbers.now }
     requires ranks { All (λ rank. rank < length numbers.now) changed.now }
-    ensures looked { map option_copied views.new.items ≡ fold (looked (P.view pages.now) numbers.now) (map option_copied views.old.items) changed.now }
+    requires stand { RanksStand changed.now numbers.now (map option_copied views.old.items) (P.view pages.now) }
+    ensures looked { map option_copied views.new.items ≡ map (P.view pages.now) numbers.now }
     ensures long { length views.new.items ≡ length numbers.now }
 {
     for rank in changed {

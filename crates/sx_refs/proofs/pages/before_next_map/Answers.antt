@@ -1,4 +1,4 @@
-use Rattle.std.proofs.Common.{ap, arith}
+use Rattle.std.proofs.Common.{arith}
 use Rattle.sx_refs.proofs.Steps.{none_at_first, none_from, below_place}
 use Rattle.sx_refs.proofs.pages.before_next_map.Goals as goal
 use Rattle.sx_refs.proofs.pages.before_next_map.Goals.{then-lock-no-via-then-lock-no, then-lock-no-via-else-lock-no+then-last-lock}

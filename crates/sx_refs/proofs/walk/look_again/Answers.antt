@@ -1,6 +1,7 @@
-use Rattle.std.proofs.Common.{◌∙◌, option_copied, get_or}
-use Rattle.std.proofs.lemmas.List.{length-set}
-use Rattle.sx_refs.proofs.Views.{look_more}
+use Rattle.std.proofs.Common.{◌∙◌, ap, option_copied, get_or, map, fold, take_all, List, ℕ}
+use Rattle.std.proofs.lemmas.List.{length-set, length-map}
+use Rattle.sx_refs.proofs.Views.{look_more, looked_all}
+use Rattle.sx_refs.specs.Walks.{looked}
 use Rattle.sx_refs.proofs.walk.look_again.Goals as goal
 
 pub loop-rank-preserved : goal.loop-rank-preserved
@@ -12,3 +13,10 @@ loop-rank-preserved g c =
           c.loop-rank.rank-index c.page.result c.loop-rank-test.true c.page.ensures.view c.loop-rank.invariant.looked;
       long = length-set views rank c.page.result ∙ c.loop-rank.invariant.long;
     }
+
+pub returns-clause-looked : goal.returns-clause-looked
+returns-clause-looked g c =
+    let views = map (option_copied {T = List ℕ}) c.args.views.now.items in
+    c.loop-rank.invariant.looked ∙ ap (fold (looked (g.P.PageViews.view c.args.pages.now) c.args.numbers.now) views) (take_all c.loop-rank.rank-index c.args.changed.now c.loop-rank-test.false)
+    ∙ looked_all (g.P.PageViews.view c.args.pages.now) c.args.numbers.now c.args.changed.now views
+    (length-map c.args.views.now.items (option_copied {T = List ℕ}) ∙ c.requires.long) c.requires.ranks c.requires.stand

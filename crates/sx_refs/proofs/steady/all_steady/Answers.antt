@@ -1,8 +1,10 @@
 use Rattle.std.proofs.Common.{◌<◌, ◌∙◌, ℕ, List, None, get_or, map, length, option_copied, sym, subst, arith}
 use Rattle.std.proofs.lemmas.List.{get_or_default}
-use Rattle.sx_refs.specs.Steady.{IsSteady, HasUsable}
-use Rattle.sx_refs.proofs.Steadying.{view_at, one_more}
-use Rattle.sx_refs.proofs.walk.all_steady.Goals as goal
+use Rattle.sx_refs.specs.Steady.{IsSteady}
+use Rattle.sx_refs.specs.Turning.{HasUsable}
+use Rattle.sx_refs.proofs.Steadying.{one_more}
+use Rattle.sx_refs.proofs.StepLemmas.{view_at}
+use Rattle.sx_refs.proofs.steady.all_steady.Goals as goal
 
 pub is_steady-requires-clause-before : goal.is_steady-requires-clause-before
 is_steady-requires-clause-before g c =

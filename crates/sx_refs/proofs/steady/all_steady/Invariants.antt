@@ -1,6 +1,6 @@
 use Rattle.std.proofs.Common.{◌<◌, ℕ, None, get_or, map, option_copied}
 use Rattle.sx_refs.specs.Steady.{IsSteady}
-use Rattle.sx_refs.proofs.walk.all_steady.Given as goal
+use Rattle.sx_refs.proofs.steady.all_steady.Given as goal
 
 -- the first so many listed pages are steady
 abbrev pub invariant-loop-rank : goal.invariant-loop-rank
