@@ -1,2 +1,4 @@
 pub mod Carve
 pub mod Rest
+pub mod Spilled
+pub mod SpilledRest

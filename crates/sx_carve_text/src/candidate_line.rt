@@ -34,7 +34,12 @@ pub fn put_candidate_line(
 
 /// Puts a candidate's file, its offset in that and its length behind what `line` holds.
 #[tactic(auto, unfolding(crate::specs::Carve::place_text))]
-fn put_place(image: Image, at: u32, len: u32, line: &mut String) -> Result<(), AllocError>
+pub(crate) fn put_place(
+    image: Image,
+    at: u32,
+    len: u32,
+    line: &mut String,
+) -> Result<(), AllocError>
     requires { image.offset < 2 ^ 32 }
     ensures { OnOk result (string_bytes line.new ≡ string_bytes line.old ++ place_text image at len) }
 {
@@ -45,7 +50,7 @@ fn put_place(image: Image, at: u32, len: u32, line: &mut String) -> Result<(), A
 
 /// Puts a form behind what `line` holds.
 #[tactic(auto, unfolding(crate::specs::Carve::form_word))]
-fn put_form(form: Form, line: &mut String) -> Result<(), AllocError>
+pub(crate) fn put_form(form: Form, line: &mut String) -> Result<(), AllocError>
     ensures { OnOk result (string_bytes line.new ≡ string_bytes line.old ++ form_word form) }
 {
     match form {
@@ -68,7 +73,7 @@ fn alias_mark(alias: bool) -> &'static str
 
 /// Puts the page of an image and its class behind what `line` holds.
 #[tactic(auto, unfolding(crate::specs::Carve::page_text))]
-fn put_page(image: Image, line: &mut String) -> Result<(), AllocError>
+pub(crate) fn put_page(image: Image, line: &mut String) -> Result<(), AllocError>
     ensures { OnOk result (string_bytes line.new ≡ string_bytes line.old ++ page_text image) }
 {
     let page = image.page;
@@ -92,7 +97,7 @@ fn put_reading(
 }
 
 /// Puts a rowid behind what `line` holds.
-fn put_rowid(rowid: Option<i64>, line: &mut String) -> Result<(), AllocError>
+pub(crate) fn put_rowid(rowid: Option<i64>, line: &mut String) -> Result<(), AllocError>
     ensures { OnOk result (string_bytes line.new ≡ string_bytes line.old ++ found_rowid rowid) }
 {
     match rowid {
@@ -130,7 +135,7 @@ fn put_column(encoding: Encoding, column: Shown<'_>, line: &mut String) -> Resul
 }
 
 /// Puts the first overflow page, where there is one, behind what `line` holds.
-fn put_overflow(overflow: Option<u32>, line: &mut String) -> Result<(), AllocError>
+pub(crate) fn put_overflow(overflow: Option<u32>, line: &mut String) -> Result<(), AllocError>
     ensures { OnOk result (string_bytes line.new ≡ string_bytes line.old ++ first_overflow_text overflow) }
 {
     match overflow {

@@ -1,5 +1,5 @@
 -- What is seen of a record that isn't wholly there.
-use Rattle.std.specs.Prelude.{◌≡◌, is_some, ℕ, ◌+◌, ◌-◌, ℤ, Bool, nat_le, if◌then◌else◌, false, true, List, [], ◌∷◌, length, take, drop, Option, Some, None}
+use Rattle.std.specs.Prelude.{◌≡◌, ◌≤◌, is_some, ℕ, ◌+◌, ◌-◌, ℤ, Bool, nat_le, if◌then◌else◌, false, true, List, [], ◌∷◌, length, take, drop, Option, Some, None}
 use Rattle.sx_record.specs.Content.{Content, content_of}
 use Rattle.sx_record.specs.SerialTypes.{body_len, content_in}
 use Rattle.sx_record.specs.Records.{types_or_none}
@@ -85,6 +85,13 @@ seen_from true types bodies = lost ∷ seen (types_or_none (used_types types)) b
 pub record AreShown (form : Form) (types bodies : List ℕ) (columns : ℕ) : Type 0 where
   pub read : is_some (used_types types) ≡ true
   pub count : length (columns_in form types bodies) ≡ columns
+
+-- the local part of a whole cell is one of its payload, which isn't longer than a cell may have
+abbrev pub IsPart : Form → ℕ → List ℕ → Type 0
+IsPart Full payload local = (length local ≤ payload) × (payload ≤ 2147483647)
+IsPart (Tail e) payload local = Unit {0}
+IsPart (Types n) payload local = Unit {0}
+IsPart (Lost n alias) payload local = Unit {0}
 
 -- whether the type of the first column is lost
 abbrev pub has_lost : Form → Bool

@@ -107,6 +107,7 @@ fn split_local(payload: u64, usable: u32, bytes: &[u8]) -> Option<Held<'_>>
     ensures finds { Finds (λ held. record { local = held.local.now; overflow = held.overflow; rest = held.rest.now }) result (held_at usable payload bytes.now) }
     ensures shorter { IfSome result (λ held. length held.rest.now ≤ length bytes.now) }
     ensures part { IfSome result (λ held. length held.local.now ≤ payload) }
+    ensures few { IfSome result (λ held. payload ≤ 2147483647) }
     ensures within { IfSome result (λ held. length held.local.now ≤ length bytes.now) }
 {
     if payload > LONGEST_PAYLOAD {

@@ -1,5 +1,5 @@
 //! What is read of a candidate.
-ghost use Rattle.std.specs.Prelude.{◌≡◌, ◌<◌, length, slice_get, Some, None, MatchOption};
+ghost use Rattle.std.specs.Prelude.{◌≡◌, ◌^◌, ◌<◌, ◌≤◌, length, slice_get, Some, None, MatchOption, IfSome};
 ghost use Rattle.sx_grammar.specs.Sightings.{Sighting, seen_of, has_lost};
 
 use crate::columns::Columns;
@@ -24,13 +24,13 @@ pub struct Reading<'a> {
 }
 
 impl<'a> Model for Reading<'a> {
-    ghost use Rattle.sx_grammar.specs.Sightings.{Sighting, AreShown, payload_in, local_in, columns_in};
+    ghost use Rattle.sx_grammar.specs.Sightings.{Sighting, AreShown, IsPart, payload_in, local_in, columns_in};
 
     ghost Value = { Sighting };
 
     ghost view = { λ reading. record { form = reading.form; len = reading.len; rowid = reading.rowid; overflow = reading.overflow; payload = payload_in reading.form reading.len reading.payload; local = local_in reading.form reading.local.now; columns = columns_in reading.form reading.types.now reading.bodies.now } };
 
-    ghost invariant = { λ reading. AreShown reading.form reading.types.now reading.bodies.now reading.columns };
+    ghost invariant = { λ reading. (AreShown reading.form reading.types.now reading.bodies.now reading.columns) × (IsPart reading.form reading.payload reading.local.now) };
 }
 
 impl<'a> Reading<'a> {
@@ -64,7 +64,8 @@ impl<'a> Reading<'a> {
 
     /// The length of the payload in bytes, its overflow pages among them.
     pub fn payload(&self) -> u64
-        ensures { result ≡ self.now.payload }
+        ensures payload { result ≡ self.now.payload }
+        ensures few { result < 2 ^ 32 }
     {
         let len = u64::from(self.len);
         match self.form {
@@ -77,7 +78,8 @@ impl<'a> Reading<'a> {
 
     /// The local part of the payload, for a whole cell: a borrow of the run. None for another form.
     pub fn local(&self) -> Option<&'a [u8]>
-        ensures { MatchOption result (self.now.local ≡ None) (λ local. self.now.local ≡ Some local.now) }
+        ensures local { MatchOption result (self.now.local ≡ None) (λ local. self.now.local ≡ Some local.now) }
+        ensures part { IfSome result (λ local. length local.now ≤ self.now.payload) }
     {
         match self.form {
             Form::Full => Some(self.local),

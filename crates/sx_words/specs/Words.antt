@@ -1,5 +1,5 @@
 -- The grammar of the words: the request that a list of words asks for, if it asks for one.
-use Rattle.std.specs.Prelude.{ℕ, ℤ, pos, negsuc, ◌-◌, ◌==◌, Bool, false, not, ◌&&◌, ◌||◌, nat_lt, nat_le, if◌then◌else◌, List, [], ◌∷◌, map, is_some, count_by, slice_index, Option, None, Some, Result, Ok, Err, String, codes, bytes_eq, string_bytes}
+use Rattle.std.specs.Prelude.{ℕ, ℤ, pos, negsuc, ◌-◌, ◌==◌, Bool, true, false, not, ◌&&◌, ◌||◌, nat_lt, nat_le, if◌then◌else◌, List, [], ◌∷◌, map, is_some, count_by, slice_index, Option, None, Some, Result, Ok, Err, String, codes, bytes_eq, string_bytes}
 use Rattle.std.specs.List.{list_all, list_any, before_first, after_first}
 use Rattle.std.specs.Option.{option_map}
 use Rattle.std.specs.Str.{all_ascii_digits}
@@ -33,7 +33,7 @@ pub data Question : Type 0 where
   Show : (table : List ℕ) → (at : When) → Question
   Map : (at : When) → Question
   Page : (number : ℕ) → (at : When) → Question
-  Carve : (at : Which) → Question
+  Carve : (at : Which) → (spill : Bool) → Question
   Explain : (place : Place) → (at : When) → Question
   Generations : Question
   History : (table : List ℕ) → (rowid : ℤ) → Question
@@ -70,7 +70,7 @@ keys_of commands.Timeline = []
 keys_of commands.Show = Required Table ∷ Allowed At ∷ []
 keys_of commands.Map = Allowed At ∷ []
 keys_of commands.Page = Required No ∷ Allowed At ∷ []
-keys_of commands.Carve = Allowed At ∷ []
+keys_of commands.Carve = Allowed At ∷ Allowed keys.Spill ∷ []
 keys_of commands.Explain = Required keys.Part ∷ Required keys.Byte ∷ Allowed At ∷ []
 keys_of commands.Generations = []
 keys_of commands.History = Required Table ∷ Required keys.Rowid ∷ []
@@ -92,6 +92,7 @@ key_name keys.Rowid = codes "rowid"
 key_name keys.Seed = codes "seed"
 key_name keys.Leaves = codes "leaves"
 key_name keys.Commits = codes "commits"
+key_name keys.Spill = codes "spill"
 key_name At = codes "at"
 
 -- the byte `=`
@@ -218,6 +219,13 @@ one_of (Some at) = Some (whiches.One at)
 unfoldable pub which_of : Option (List ℕ) → Option Which
 which_of value = if is_all value then Some whiches.All else one_of (when_of value)
 
+-- whether candidates are completed: not where no value is given, else by `yes` or `no`
+unfoldable pub spill_of : Option (List ℕ) → Option Bool
+spill_of None = Some false
+spill_of (Some text) =
+    if bytes_eq text (codes "yes") then Some true
+    else (if bytes_eq text (codes "no") then Some false else None)
+
 -- ---- the request
 
 -- a table at some time, where that could be read
@@ -237,10 +245,11 @@ abbrev pub map_of : Option When → Option Question
 map_of (Some at) = Some (Map at)
 map_of None = None
 
--- what stands of deleted rows at some times, where these could be read
-abbrev pub carve_of : Option Which → Option Question
-carve_of (Some at) = Some (Carve at)
-carve_of None = None
+-- what stands of deleted rows at some times, completed or not, where both could be read
+abbrev pub carve_of : Option Which → Option Bool → Option Question
+carve_of (Some at) (Some spill) = Some (Carve at spill)
+carve_of (Some at) None = None
+carve_of None spill = None
 
 -- a table and a rowid, where both could be read
 abbrev pub history_of : Option (List ℕ) → Option ℤ → Option Question
@@ -266,7 +275,7 @@ question_of commands.Timeline words = Some Timeline
 question_of commands.Show words = show_of (value_of Table words) (when_of (value_of At words))
 question_of commands.Map words = map_of (when_of (value_of At words))
 question_of commands.Page words = page_of (page_number_of (value_of No words)) (when_of (value_of At words))
-question_of commands.Carve words = carve_of (which_of (value_of At words))
+question_of commands.Carve words = carve_of (which_of (value_of At words)) (spill_of (value_of keys.Spill words))
 question_of commands.Explain words =
     explain_of (byte_of (part_of (value_of keys.Part words)) (offset_of (value_of keys.Byte words))) (when_of (value_of At words))
 question_of commands.Generations words = Some Generations
@@ -315,7 +324,7 @@ question_by questions.Timeline = Timeline
 question_by (questions.Show table at) = Show table.now at
 question_by (questions.Map at) = Map at
 question_by (questions.Page number at) = Page number at
-question_by (questions.Carve at) = Carve at
+question_by (questions.Carve at spill) = Carve at spill
 question_by (questions.Explain place at) = Explain place at
 question_by questions.Generations = Generations
 question_by (questions.History table rowid) = History table.now rowid

@@ -46,7 +46,7 @@ impl Command {
             Command::Show => &[Wanted::Required(Key::Table), Wanted::Allowed(Key::At)],
             Command::Map => &[Wanted::Allowed(Key::At)],
             Command::Page => &[Wanted::Required(Key::No), Wanted::Allowed(Key::At)],
-            Command::Carve => &[Wanted::Allowed(Key::At)],
+            Command::Carve => &[Wanted::Allowed(Key::At), Wanted::Allowed(Key::Spill)],
             Command::Explain => &[
                 Wanted::Required(Key::Part),
                 Wanted::Required(Key::Byte),

@@ -17,6 +17,8 @@ pub enum Key {
     Rowid,
     /// The moment of the evidence.
     At,
+    /// Whether candidates are completed by their overflow pages.
+    Spill,
     /// The number that a drill begins with.
     Seed,
     /// How many leaves a drill's table has.
@@ -37,6 +39,7 @@ impl Key {
             Key::Byte => "byte",
             Key::Rowid => "rowid",
             Key::At => "at",
+            Key::Spill => "spill",
             Key::Seed => "seed",
             Key::Leaves => "leaves",
             Key::Commits => "commits",

@@ -1,7 +1,7 @@
 //! The grammar of the words.
 ghost use Rattle.std.specs.Prelude.{◌≡◌, ◌≤◌, ◌^◌, ◌∷◌, [], IfSome};
 ghost use Rattle.std.specs.Option.{option_copied, option_map};
-ghost use Rattle.sx_words.specs.Words.{texts, request_of, evidence_of, drill_of, drill_by, bounded_of, command_of, question_of, show_of, map_of, page_of, carve_of, which_of, is_all, one_of, explain_of, byte_of, part_of, offset_of, command_named, page_number_of, rowid_of, signed_of, after_minus, negated, history_of, when_of, asked, question_by, is_name, numbered};
+ghost use Rattle.sx_words.specs.Words.{texts, request_of, evidence_of, drill_of, drill_by, bounded_of, command_of, question_of, show_of, map_of, page_of, carve_of, spill_of, which_of, is_all, one_of, explain_of, byte_of, part_of, offset_of, command_named, page_number_of, rowid_of, signed_of, after_minus, negated, history_of, when_of, asked, question_by, is_name, numbered};
 
 use crate::command::{Command, command_named, drill_keys};
 use crate::key::Key;
@@ -27,7 +27,7 @@ const LEAST_NEGATED: u64 = 9_223_372_036_854_775_808;
 /// Else they are `<db> <command>` and words `key=value`, split at their first `=`. `<db>` isn't empty. The commands are
 /// `timeline`, `generations` and `report`, which have no key; `show` with its keys `table`, which is required, and `at`;
 /// `history` with its keys `table` and `rowid`, which are both required; `map` with its key `at`; `page` with its keys `no`,
-/// from 1 to 4294967295, which is required, and `at`; `carve` with its key `at`, which can be `all` too; and `explain` with
+/// from 1 to 4294967295, which is required, and `at`; `carve` with its keys `at`, which can be `all` too, and `spill`, which is `yes` or `no`; and `explain` with
 /// its keys `part`, which is `database`, `wal` or `journal`, and `byte`, from 0 to 18446744073709551615, which are both
 /// required, and `at`. `at` is `journal` or from 0 to 4294967295. `rowid` is from 0 to 9223372036854775807, or `-` and a
 /// number from 1 to 9223372036854775808.
@@ -151,7 +151,10 @@ fn read_question<'w>(command: Command, words: &'w [String]) -> Option<Question<'
             page_number(value_of(Key::No, words)),
             when(value_of(Key::At, words)),
         ),
-        Command::Carve => carve(which(value_of(Key::At, words))),
+        Command::Carve => carve(
+            which(value_of(Key::At, words)),
+            spill(value_of(Key::Spill, words)),
+        ),
         Command::Explain => explain(
             place(
                 part(value_of(Key::Part, words)),
@@ -192,11 +195,27 @@ fn map(at: Option<When>) -> Option<Question<'static>>
     Some(Question::Map { at: at? })
 }
 
-// What stands of deleted rows at some times, where these could be read.
-fn carve(at: Option<Which>) -> Option<Question<'static>>
-    ensures { option_map question_by result ≡ carve_of at }
+// What stands of deleted rows at some times, completed or not, where both could be read.
+fn carve(at: Option<Which>, spill: Option<bool>) -> Option<Question<'static>>
+    ensures { option_map question_by result ≡ carve_of at spill }
 {
-    Some(Question::Carve { at: at? })
+    Some(Question::Carve {
+        at: at?,
+        spill: spill?,
+    })
+}
+
+// Whether candidates are completed: not where nothing is said.
+#[tactic(auto, unfolding(crate::specs::Words::spill_of))]
+fn spill(value: Option<&str>) -> Option<bool>
+    ensures { result ≡ spill_of (option_copied value.entry) }
+{
+    match value {
+        None => Some(false),
+        Some("yes") => Some(true),
+        Some("no") => Some(false),
+        Some(_) => None,
+    }
 }
 
 // A byte at some time, where both could be read.

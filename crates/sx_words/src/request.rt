@@ -37,8 +37,9 @@ pub enum Question<'w> {
     Map { at: When },
     /// `page no=N [at=M]`: page `no`, from 1, at some time.
     Page { no: u32, at: When },
-    /// `carve [at=M|all]`: what of deleted rows still stands, where nothing uses the bytes at some times.
-    Carve { at: Which },
+    /// `carve [at=M|all] [spill=yes|no]`: what of deleted rows still stands, where nothing uses the bytes at some times, and
+    /// whether it is completed by overflow pages.
+    Carve { at: Which, spill: bool },
     /// `explain part=P byte=N [at=M]`: what a byte of one of the files is, and what at some time.
     Explain { place: Place, at: When },
     /// `generations`: what older generations left in the log, and records behind a zeroed header of the journal.

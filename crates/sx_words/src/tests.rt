@@ -97,11 +97,12 @@ fn all_moments_are_asked_for_by_carve_alone(rt: HostRuntime) -> Result<(), Fail>
     let alloc = rt.alloc();
     let db = "a.db";
     let words = owned(alloc, &["a.db", "carve", "at=all"])?;
-    let question = Question::Carve { at: Which::All };
+    let (at, spill) = (Which::All, false);
+    let question = Question::Carve { at, spill };
     assert_eq!(rt; read_words(&words), Ok(Request::Evidence { db, question }));
-    let words = owned(alloc, &["a.db", "carve"])?;
-    let at = Which::One(When::Last);
-    let question = Question::Carve { at };
+    let words = owned(alloc, &["a.db", "carve", "spill=yes"])?;
+    let (at, spill) = (Which::One(When::Last), true);
+    let question = Question::Carve { at, spill };
     assert_eq!(rt; read_words(&words), Ok(Request::Evidence { db, question }));
     Ok(())
 }
@@ -183,7 +184,9 @@ fn other_words_are_outside_the_grammar(rt: HostRuntime) -> Result<(), Fail> {
         &["a.db", "generations", "at=0"],
         &["a.db", "map", "at=all"],
         &["a.db", "carve", "at=All"],
-        &["a.db", "carve", "spill=no"],
+        &["a.db", "carve", "spill=maybe"],
+        &["a.db", "carve", "spill=no", "spill=no"],
+        &["a.db", "map", "spill=no"],
         &["a.db", "history", "table=t"],
         &["a.db", "history", "rowid=1"],
         &["a.db", "history", "table=t", "rowid=1", "at=0"],

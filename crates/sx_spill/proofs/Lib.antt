@@ -1,0 +1,10 @@
+pub mod BoolLemmas
+pub mod ListLemmas
+pub mod ChainLemmas
+pub mod TrailLemmas
+pub mod RoundLemmas
+pub mod HeldNumbers
+pub mod FrontLemmas
+pub mod GatherLemmas
+pub mod LawLemmas
+pub mod SpillLemmas

@@ -1,0 +1,4 @@
+pub mod Chains
+pub mod Completion
+pub mod Marks
+pub mod Unused
