@@ -3,3 +3,10 @@ pub mod RunLemmas
 pub mod PageLemmas
 pub mod WalkLemmas
 pub mod SweepLemmas
+pub mod KeyBlocks
+pub mod AddLemmas
+pub mod ViewLemmas
+pub mod PassLemmas
+pub mod LabelLemmas
+pub mod MomentLemmas
+pub mod AllLemmas

@@ -28,7 +28,7 @@ unfolding block_under
 block_none case images [] image at none = refl
 block_none case images (moment ∷ moments) image at none = absurd (omega arith)
 
-drop_at : (moments : List Moment) (i : ℕ) (d : Moment) → i < length moments → drop i moments ≡ get_or moments i d ∷ drop (i + 1) moments
+pub drop_at : (moments : List Moment) (i : ℕ) (d : Moment) → i < length moments → drop i moments ≡ get_or moments i d ∷ drop (i + 1) moments
 drop_at [] i d within = absurd (omega arith)
 drop_at (first ∷ moments) zero d within = refl
 drop_at (first ∷ moments) (suc i) d within =

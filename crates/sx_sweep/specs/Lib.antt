@@ -1,3 +1,5 @@
 pub mod Growth
 pub mod Owning
 pub mod Told
+pub mod Moments
+pub mod Passing

@@ -62,7 +62,7 @@ pub fn add_blocks(
 }
 
 /// Names the freeblocks of an image that is read as a b-tree page.
-fn add_node(
+pub fn add_node(
     view: &[u8],
     no: u32,
     usable: u32,

@@ -36,13 +36,8 @@ fn table(alloc: Global) -> Result<Option<ImageTable>, AllocError> {
     Ok(Some(images(alloc, 512, lengths, &wal, &journal)?))
 }
 
-/// What is owned of these images under some moments of a database of these bytes.
-fn swept(
-    alloc: Global,
-    page: &[u8; 512],
-    table: &ImageTable,
-    moments: &[Moment],
-) -> Result<Option<OwnedRuns>, AllocError> {
+/// The evidence of a database of these bytes, where they begin with a header.
+fn case_of(alloc: Global, page: &[u8; 512]) -> Result<Option<Case<'_>>, AllocError> {
     let evidence = Evidence {
         database: page,
         wal: None,
@@ -51,18 +46,31 @@ fn swept(
     let Ok(header) = read_header(page) else {
         return Ok(None);
     };
-    let case = Case::gather(alloc, header, evidence)?;
+    Ok(Some(Case::gather(alloc, header, evidence)?))
+}
+
+/// What is owned of these images at the file's moment, and what all moments tell of them.
+fn swept(
+    alloc: Global,
+    page: &[u8; 512],
+    table: &ImageTable,
+) -> Result<Option<(OwnedRuns, Swept)>, AllocError> {
+    let Some(case) = case_of(alloc, page)? else {
+        return Ok(None);
+    };
     if table.page_size() != case.header().page_size {
         return Ok(None);
     }
-    Ok(Some(sweep(alloc, &case, table, moments)?))
+    let owned = sweep(alloc, &case, table, &[Moment::File])?;
+    let all = sweep_all(alloc, &case, table)?;
+    Ok(Some((owned, all)))
 }
 
 #[test]
 fn a_page_owns_its_headers_and_names_its_freeblock(rt: HostRuntime) -> Result<(), Fail> {
     let page = first_page();
     let table = table(rt.alloc())?.ok_or("a page has 512 bytes")?;
-    let owned = swept(rt.alloc(), &page, &table, &[Moment::File])?.ok_or("a header")?;
+    let (owned, all) = swept(rt.alloc(), &page, &table)?.ok_or("a header")?;
     assert_eq!(rt; owned.images(), 1);
     let free = Span {
         start: 108,
@@ -71,5 +79,12 @@ fn a_page_owns_its_headers_and_names_its_freeblock(rt: HostRuntime) -> Result<()
     assert_eq!(rt; owned.unowned(0).next(), Some(free));
     assert!(rt; owned.is_block(0, 300));
     assert!(rt; !owned.is_block(0, 301));
+    let totals = [Some(MomentTotals {
+        owned: 108,
+        slack: 404,
+        fault: 0,
+        dead: 0,
+    })];
+    assert_eq!(rt; all.totals.as_slice(), totals.as_slice());
     Ok(())
 }

@@ -1,0 +1,3 @@
+pub mod Summing
+pub mod Rising
+pub mod Showing

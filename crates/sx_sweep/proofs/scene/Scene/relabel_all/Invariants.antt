@@ -1,0 +1,8 @@
+use Rattle.std.proofs.Common.{nat_lt}
+use Rattle.sx_sweep.specs.Passing.{Passes}
+use Rattle.sx_sweep.proofs.scene.Scene.relabel_all.Given as goal
+
+abbrev pub invariant-loop-rank : goal.invariant-loop-rank
+invariant-loop-rank l =
+    Passes l.self.sweep.now.case l.self.sweep.now.moment l.self.sweep.now.numbers l.self.table.now l.self.layout.now l.self.images.now l.fn.known.owned l.known.owned l.fn.known.sums l.known.sums
+    (λ other. nat_lt other l.rank)
