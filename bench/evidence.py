@@ -248,3 +248,31 @@ def busy(rows, commits, changed, tables=("message", "person", "call", "place")):
             made.execute("COMMIT")
 
     return statements
+
+
+def freelist(rows, commits, vacuum=False):
+    """A database of rows with a payload of 350 bytes, with full auto-vacuum where it is asked for, and then a log of so many
+    commits of which each deletes rows or inserts some again, so that each takes pages from the freelist or gives some to it."""
+
+    def statements(made):
+        made.execute("PRAGMA synchronous = OFF")
+        made.execute("PRAGMA journal_mode = OFF")
+        if vacuum:
+            made.execute("PRAGMA auto_vacuum = FULL")
+        made.execute("BEGIN")
+        made.execute("CREATE TABLE entry(id INTEGER PRIMARY KEY, body BLOB)")
+        made.executemany("INSERT INTO entry(id, body) VALUES (?, ?)", ((i, bytes((i * j) % 251 for j in range(350))) for i in range(1, rows + 1)))
+        made.execute("COMMIT")
+        made.execute("PRAGMA journal_mode = WAL")
+        made.execute("PRAGMA wal_autocheckpoint = 0")
+        for commit in range(commits):
+            first = commit // 2 * 7919 % (rows - 8) + 1
+            made.execute("BEGIN")
+            for row in range(first, first + 8):
+                if commit % 2:
+                    made.execute("INSERT OR REPLACE INTO entry(id, body) VALUES (?, ?)", (row, bytes((commit + row) % 251 for _ in range(350))))
+                else:
+                    made.execute("DELETE FROM entry WHERE id = ?", (row,))
+            made.execute("COMMIT")
+
+    return statements

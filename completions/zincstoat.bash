@@ -46,7 +46,7 @@ _zincstoat() {
     show) keys=(table at) ;;
     map) keys=(at) ;;
     page) keys=(no at) ;;
-    carve) keys=(at) ;;
+    carve) keys=(at spill) ;;
     explain) keys=(part byte at) ;;
     history) keys=(table rowid) ;;
     drill) keys=(seed leaves commits) ;;
@@ -58,6 +58,7 @@ _zincstoat() {
         case $command:$name in
         explain:part) values=(database wal journal) ;;
         carve:at) values=(all journal) ;;
+        carve:spill) values=(no yes) ;;
         *:at) values=(journal) ;;
         esac
         # Where `=` breaks words, what stands behind it is replaced, and else the whole word is.

@@ -173,11 +173,11 @@ COMMANDS = {
             fields=("part", "offset", "length", "form", "page", "class", "rowid"),
             front=f"(database|wal|journal) {NUMBER} {NUMBER} (full|tail[0-8]|types[0-9]+|lost[0-9]+a?) page {NUMBER}"
             r" (file|committed|pending|foreign|broken|good|bad|after|unchecked) rowid (\?|-?[0-9]{1,19})",
-            asides=patterns(count="candidates (?P<rows>[0-9]+)"),
+            asides=patterns(count="candidates (?P<rows>[0-9]+)(?: completed [0-9]+)?"),
             closing="count",
             has_values=True,
             behind=("overflow",),
-            back=f"(?: overflow {NUMBER})?",
+            back=f"(?: overflow {NUMBER}(?: complete)?)?",
         ),
         Command(
             name="timeline",

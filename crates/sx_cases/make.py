@@ -83,6 +83,9 @@ SPILLED = placed(
     size=2560,
 )
 
+# The same without its row: the bytes of the cell stay, and nothing leads to the last three pages.
+UNSPILLED = changed(SPILLED, (516, 0), (517, 2), (518, 0), (520, 0), (521, 0))
+
 FIRST, ROWS = PLAIN[:512], PLAIN[512:]
 
 
@@ -250,6 +253,16 @@ def remains():
     write("record_into_a_cell", changed(PLAIN, *((992 + at, byte) for at, byte in enumerate(inner[:4]))))
 
 
+def spills():
+    """A deleted row whose overflow pages still stand; its chain goes round, meets a page in use, or serves another row too."""
+    write("spilled_deleted", UNSPILLED)
+    write("spilled_deleted_round", changed(UNSPILLED, (1539, 3)))
+    write("spilled_deleted_into_use", changed(UNSPILLED, (1539, 2)))
+    other = placed((0, UNSPILLED), (812, [139, 97, 2, 3, 151, 72]), (818, [68] * 36), (854, [0, 0, 0, 3]))
+    write("spilled_deleted_twice", other)
+    write("spilled_deleted_later", SPILLED, log(True, (2, 5, UNSPILLED[512:1024])))
+
+
 def nodes():
     inner = [5, 0, 0, 0, 1, 1, 251, 0, 0, 0, 0, 3, 1, 251]
     write(
@@ -298,3 +311,4 @@ if __name__ == "__main__":
     histories()
     labels()
     remains()
+    spills()

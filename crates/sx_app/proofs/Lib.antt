@@ -3,6 +3,7 @@ pub mod Missing
 pub mod Examined
 pub mod Complete
 pub mod Layouts
+pub mod Swept
 pub mod Indexes
 pub mod Carved
 pub mod AllMoments

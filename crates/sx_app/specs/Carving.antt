@@ -1,5 +1,5 @@
 -- What stands of deleted rows, where nothing uses the bytes at some moments: what `carve` asks for.
-use Rattle.std.specs.Prelude.{◌≡◌, ℕ, List, [], ◌∷◌, length, Option, None, Some}
+use Rattle.std.specs.Prelude.{◌≡◌, ℕ, Bool, if◌then◌else◌, List, [], ◌∷◌, length, Option, None, Some}
 use Rattle.sx_base.specs.declared.moment.Moment.{Moment}
 use Rattle.sx_header.specs.declared.header.Header.{Header}
 use Rattle.sx_moment.specs.Gathered.{Gathered, moments_of, size_at}
@@ -10,11 +10,15 @@ use Rattle.sx_images.specs.Images.{images_of}
 use Rattle.sx_sweep.specs.Owning.{owned_under, block_under}
 use Rattle.sx_grammar.specs.declared.shape.ShapeKey.{ShapeKey}
 use Rattle.sx_grammar.specs.Choice.{Rises}
+use Rattle.sx_grammar.specs.Sightings.{Sighting}
 use Rattle.sx_shapes.specs.Shapes.{shapes_of}
 use Rattle.sx_owned.specs.Owned.{images_of as owned_images}
 use Rattle.sx_carve.specs.Candidates.{Told, told_by, TellSame, Carved, candidates_of}
 use Rattle.sx_carve.specs.Evidence.{evidence_bytes}
 use Rattle.sx_carve_text.specs.Carve.{carve_lines}
+use Rattle.sx_carve_text.specs.Spilled.{spilled_lines}
+use Rattle.sx_spill.specs.Completion.{completed_of}
+use Rattle.sx_spill.specs.Unused.{unused_pages}
 use Rattle.sx_words.specs.declared.request.When.{When}
 use Rattle.sx_words.specs.declared.request.When.TheVariants.{Last}
 use Rattle.sx_words.specs.declared.request.Which.{Which}
@@ -53,9 +57,17 @@ candidates_under case moments last =
     candidates_of (layout_of case last).usable (shapes_at case last) (told_under case moments) case.header.page_size
     (evidence_bytes case.database case.wal_bytes case.journal_bytes) (images_of (images_in case))
 
--- the lines
-unfoldable pub carve_at : Gathered → List Moment → Moment → List (List ℕ)
-carve_at case moments last = carve_lines (encoding_at case last) (images_of (images_in case)) (candidates_under case moments last)
+-- what completes a candidate: the pages that the last of some moments sees, where no usable byte of them is owned under any
+abbrev pub completed_under : Gathered → List Moment → Moment → Sighting → Option (List ℕ)
+completed_under case moments last =
+    completed_of (unused_pages case last (images_in case) (told_under case moments).owned (layout_of case last).usable)
+
+-- the lines, with completed candidates or without
+unfoldable pub carve_at : Gathered → List Moment → Moment → Bool → List (List ℕ)
+carve_at case moments last spill =
+    if spill
+    then spilled_lines (encoding_at case last) (images_of (images_in case)) (completed_under case moments last) (candidates_under case moments last)
+    else carve_lines (encoding_at case last) (images_of (images_in case)) (candidates_under case moments last)
 
 -- what was prepared is of this case, these moments and the last of them
 pub record IsCarving (case : Gathered) (moments : List Moment) (last : Moment) (made : Carving) : Type 0 where

@@ -27,7 +27,7 @@ reply_over words.Timeline case = Ok (timeline_lines case)
 reply_over (words.Show table at) case = moment_of case at >>= λ moment. table_lines case moment table
 reply_over (words.Map at) case = moment_of case at >>= λ moment. Ok (map_at case moment)
 reply_over (words.Page number at) case = moment_of case at >>= λ moment. Ok (page_lines case moment number)
-reply_over (words.Carve which) case = moment_of case (latest which) >>= λ moment. Ok (carve_at case (selected case which moment) moment)
+reply_over (words.Carve which spill) case = moment_of case (latest which) >>= λ moment. Ok (carve_at case (selected case which moment) moment spill)
 reply_over (words.Explain place at) case = moment_of case at >>= λ moment. explain_at case moment place
 reply_over words.Generations case = Ok (generations_of case)
 reply_over (words.History table rowid) case = Ok (histories_of case table rowid)
@@ -39,7 +39,7 @@ MayMeetOver words.Timeline refused = ⊥
 MayMeetOver (words.Show table at) refused = MayMissTable at refused
 MayMeetOver (words.Map at) refused = MayMiss at refused
 MayMeetOver (words.Page number at) refused = MayMiss at refused
-MayMeetOver (words.Carve which) refused = MayMiss (latest which) refused
+MayMeetOver (words.Carve which spill) refused = MayMiss (latest which) refused
 MayMeetOver (words.Explain place at) refused = MayMissByte at refused
 MayMeetOver words.Generations refused = ⊥
 MayMeetOver (words.History table rowid) refused = ⊥

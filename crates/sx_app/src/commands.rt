@@ -1,17 +1,18 @@
 //! The table of commands: what each makes of the gathered evidence.
-ghost use Rattle.std.specs.Prelude.{◌≡◌, Ok, IfErr};
+ghost use Rattle.std.specs.Prelude.{◌≡◌, List, Ok, IfErr};
+ghost use Rattle.sx_base.specs.declared.moment.Moment.{Moment};
 ghost use Rattle.sx_page_text.specs.Rest.{page_rest};
 ghost use Rattle.sx_words.specs.Words.{question_by};
 ghost use Rattle.sx_words.specs.Words as words;
 ghost use Rattle.sx_moment.specs.Limits.{IsSmall};
 ghost use Rattle.sx_words.specs.declared.request.When.{When};
 ghost use Rattle.sx_app.specs.Commands.{part_named, reply_over};
-ghost use Rattle.sx_app.specs.Carving.{carve_at, selected};
+ghost use Rattle.sx_app.specs.Carving.{carve_at, selected, IsCarving};
 ghost use Rattle.sx_app.specs.Labels.{explain_at, map_at};
 ghost use Rattle.sx_app.specs.Owed.{Gives, IsAnswered};
 ghost use Rattle.sx_app.specs.Stages.{MayMeet, Deciding};
 
-use crate::carving::{carve_lines, latest, prepare};
+use crate::carving::{Carving, carve_lines, latest, prepare, spill_lines};
 use crate::finish::{finish, finish_line};
 use crate::generations::generations_lines;
 use crate::histories::HistoryLines;
@@ -63,7 +64,7 @@ pub fn answer_question<W: Sink>(
         Question::Show { table, at } => answer_show(alloc, question, case, table, *at, out),
         Question::Map { at } => answer_map(alloc, question, case, *at, out),
         Question::Page { no, at } => finish(alloc, question, page_lines(case, *no, *at), out),
-        Question::Carve { at } => answer_carve(alloc, question, case, *at, out),
+        Question::Carve { at, spill } => answer_carve(alloc, question, case, *at, *spill, out),
         Question::Explain { place, at } => answer_explain(alloc, question, case, *place, *at, out),
         Question::Generations => finish(alloc, question, generations_lines(alloc, case), out),
         Question::History { table, rowid } => {
@@ -148,17 +149,18 @@ fn answer_carve<W: Sink>(
     question: &Question<'_>,
     case: &Case<'_>,
     which: Which,
+    spill: bool,
     out: &mut W,
 ) -> Result<(), Refused>
-    requires asked { question_by question.now ≡ words.Carve which }
+    requires asked { question_by question.now ≡ words.Carve which spill }
     requires small { IsSmall case.now.database case.now.wal_bytes case.now.journal_bytes }
-    ensures { IsAnswered (question_by question.now) (reply_over (words.Carve which) case.now)
+    ensures { IsAnswered (question_by question.now) (reply_over (words.Carve which spill) case.now)
         (W.taken out.old) (W.taken out.new) (W.faults out.old) (W.faults out.new) result }
 {
     let at = latest(which);
     let moment = moment_meant(case, at);
     match snapshot_asked(case, at) {
-        Ok(snapshot) => carve_moments(alloc, question, case, &snapshot, moment, which, out),
+        Ok(snapshot) => carve_moments(alloc, question, case, &snapshot, moment, which, spill, out),
         Err(refused) => finish::<HeadlessLines, W>(alloc, question, Err(refused), out),
     }
 }
@@ -171,18 +173,43 @@ fn carve_moments<W: Sink>(
     snapshot: &Snapshot<'_, '_>,
     moment: Moment,
     which: Which,
+    spill: bool,
     out: &mut W,
 ) -> Result<(), Refused>
-    requires asked { question_by question.now ≡ words.Carve which }
+    requires asked { question_by question.now ≡ words.Carve which spill }
     requires small { IsSmall case.now.database case.now.wal_bytes case.now.journal_bytes }
     requires case { snapshot.now.case.now ≡ case.now }
     requires moment { moment ≡ snapshot.now.moment }
-    ensures { IsAnswered (question_by question.now) (Ok (carve_at case.now (selected case.now which moment) moment))
+    ensures { IsAnswered (question_by question.now) (Ok (carve_at case.now (selected case.now which moment) moment spill))
         (W.taken out.old) (W.taken out.new) (W.faults out.old) (W.faults out.new) result }
 {
     match prepare(alloc, case, snapshot, which, moment) {
-        Ok(made) => finish(alloc, question, Ok(carve_lines(case, snapshot, &made)), out),
+        Ok(made) => carve_prepared(alloc, question, case, snapshot, &made, spill, out),
         Err(refused) => finish::<HeadlessLines, W>(alloc, question, Err(refused), out),
+    }
+}
+
+// Answers `carve`, over what was prepared for it: with completed candidates or without.
+fn carve_prepared<W: Sink>(
+    alloc: Global,
+    question: &Question<'_>,
+    case: &Case<'_>,
+    snapshot: &Snapshot<'_, '_>,
+    made: &Carving,
+    spill: bool,
+    out: &mut W,
+) -> Result<(), Refused>
+    requires case { snapshot.now.case.now ≡ case.now }
+    requires made { (moments : List Moment) × IsCarving case.now moments snapshot.now.moment made.now }
+    ensures { (moments : List Moment) (last : Moment) → last ≡ snapshot.now.moment → IsCarving case.now moments snapshot.now.moment made.now → IsAnswered (question_by question.now) (Ok (carve_at case.now moments last spill))
+        (W.taken out.old) (W.taken out.new) (W.faults out.old) (W.faults out.new) result }
+{
+    if spill {
+        let lines = spill_lines(alloc, case, snapshot, made);
+        finish(alloc, question, Ok(lines), out)
+    } else {
+        let lines = carve_lines(case, snapshot, made);
+        finish(alloc, question, Ok(lines), out)
     }
 }
 

@@ -18,6 +18,8 @@ pub struct Case {
     pub each_room: bool,
     /// The failures that are built into the store.
     pub faults: Vec<Trip>,
+    /// Places of a file at each of which reads fail, one place after the other.
+    pub each_place: Option<Places>,
     /// The status that it ends with, where it is written.
     pub status: Option<u8>,
     /// The text.
@@ -33,6 +35,15 @@ pub struct Named {
     pub bytes: String,
 }
 
+/// The places of a file from 0 to a last one.
+#[derive(Clone, Copy)]
+pub struct Places {
+    /// The number of the file in the store.
+    pub file: u32,
+    /// The last place.
+    pub last: u64,
+}
+
 impl Case {
     /// A case of which only the name is known.
     pub fn new(alloc: Global, name: String) -> Case {
@@ -43,6 +54,7 @@ impl Case {
             pieces: 65_536,
             each_room: false,
             faults: Vec::new(alloc),
+            each_place: None,
             status: None,
             text: String::new(alloc),
         }

@@ -1,11 +1,11 @@
 //! What comes of a case.
 
-use crate::case::Case;
+use crate::case::{Case, Places};
 use crate::evidence::load_files;
 use std::io;
 use std::rt::Files;
 use sx_app::{examine, status};
-use sx_edge::{Shelf, Tray, names_differ};
+use sx_edge::{Shelf, Tray, Trip, names_differ};
 
 /// More room than a text needs.
 const SPARE: usize = 4_096;
@@ -22,7 +22,28 @@ pub fn holds<R: Files + Print + AllocGlobal>(rt: &R, case: &Case) -> io::Result<
     if case.each_room && !each_room_holds(rt, case, text)? {
         return Ok(false);
     }
-    holds_with(rt, case, text.len().saturating_add(SPARE), end, text)
+    let room = text.len().saturating_add(SPARE);
+    match case.each_place {
+        Some(places) => each_place_holds(rt, case, places, room, end),
+        None => holds_with(rt, case, case.faults.as_slice(), room, end, text),
+    }
+}
+
+// Whether the case ends so, with nothing printed, where reads fail at each of these places.
+fn each_place_holds<R: Files + Print + AllocGlobal>(
+    rt: &R,
+    case: &Case,
+    places: Places,
+    room: usize,
+    end: u8,
+) -> io::Result<bool> {
+    for place in 0..=places.last {
+        let fault = Trip::Read(places.file, place);
+        if !holds_with(rt, case, &[fault], room, end, &[])? {
+            return Ok(false);
+        }
+    }
+    Ok(true)
 }
 
 // Whether each room below the text's length is filled by a front of it.
@@ -32,17 +53,18 @@ fn each_room_holds<R: Files + Print + AllocGlobal>(
     text: &[u8],
 ) -> io::Result<bool> {
     for room in 0..text.len() {
-        if !holds_with(rt, case, room, NO_ROOM, &text[..room])? {
+        if !holds_with(rt, case, case.faults.as_slice(), room, NO_ROOM, &text[..room])? {
             return Ok(false);
         }
     }
     Ok(true)
 }
 
-// Whether a case over a sink of that room ends so, with these bytes taken.
+// Whether a case over a store with these failures and a sink of that room ends so, with these bytes taken.
 fn holds_with<R: Files + Print + AllocGlobal>(
     rt: &R,
     case: &Case,
+    faults: &[Trip],
     room: usize,
     end: u8,
     text: &[u8],
@@ -52,7 +74,7 @@ fn holds_with<R: Files + Print + AllocGlobal>(
         return differs(rt, case, "two files have one name");
     }
     let pieces = case.pieces.max(1);
-    let mut store = Shelf::new(files, pieces, case.faults.as_slice().to_vec(rt.alloc())?);
+    let mut store = Shelf::new(files, pieces, faults.to_vec(rt.alloc())?);
     let mut out = Tray::new(rt.alloc(), room, pieces)?;
     let ended = status(&examine(rt.alloc(), &case.words, &mut store, &mut out));
     if ended != end {

@@ -1,6 +1,6 @@
 //! How cases are written.
 
-use crate::case::{Case, Named};
+use crate::case::{Case, Named, Places};
 use std::alloc::Global;
 use std::io;
 use sx_edge::Trip;
@@ -104,16 +104,19 @@ fn read_pieces(rest: &str, case: &mut Case) -> bool {
     }
 }
 
-// A failure of a file that the store has: at its start, or where a read stands at a place.
+// A failure of a file that the store has: at its start, where a read stands at a place, or where one stands at each place
+// up to a last one.
 fn read_fault(rest: &str, case: &mut Case) -> io::Result<bool> {
     let (when, behind) = rest.split_once(' ').unwrap_or((rest, ""));
     let (name, place) = behind.split_once(' ').unwrap_or((behind, "0"));
-    let (Some(number), Ok(place)) = (case.number(name), place.parse::<u64>()) else {
+    let (each, last) = place.split_once(' ').unwrap_or(("", place));
+    let (Some(file), Ok(last)) = (case.number(name), last.parse::<u64>()) else {
         return Ok(false);
     };
-    match when {
-        "start" => case.faults.push(Trip::Start(number))?,
-        "read" => case.faults.push(Trip::Read(number, place))?,
+    match (when, each) {
+        ("start", "") => case.faults.push(Trip::Start(file))?,
+        ("read", "") => case.faults.push(Trip::Read(file, last))?,
+        ("read", "each") => case.each_place = Some(Places { file, last }),
         _ => return Ok(false),
     }
     Ok(true)

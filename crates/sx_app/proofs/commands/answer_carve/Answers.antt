@@ -9,4 +9,4 @@ pub returns-in-Err : goal.returns-in-Err
 returns-in-Err g c =
     let case = c.args.case.now in
     let told = subst (λ at. Fails c.in-Err.refused (moment_of case at)) c.latest-at.ensures c.in-Err.ensures.told in
-    c.finish.ensures _ (fails_on c.in-Err.refused _ (λ moment. Ok (carve_at case (selected case c.args.which moment) moment)) told)
+    c.finish.ensures _ (fails_on c.in-Err.refused _ (λ moment. Ok (carve_at case (selected case c.args.which moment) moment c.args.spill)) told)
