@@ -13,7 +13,10 @@ mod stretch;
 
 pub use key::{PageKey, Standing, page_key};
 pub use keyed::keyed_map;
-pub use laws::{places_by_chains, runs_by_rules, stretches_by_rules, totals_by_present_pages};
+pub use laws::{
+    bytes_are_in_one_item, places_by_chains, runs_by_rules, stretches_by_rules,
+    totals_by_present_pages,
+};
 pub use map::{PageMap, Totals};
 pub use page::page_map;
 pub use runs::Runs;
