@@ -17,6 +17,7 @@ use Rattle.sx_refs.specs.Turning.{in_the_role, HasUsable}
 use Rattle.sx_refs.specs.Steady.{MayBe, NamesSame, IsSteady, AreSteady, IsStanding}
 use Rattle.sx_refs.proofs.Views.{Stand, map_at, none_there, first_or}
 use Rattle.sx_refs.specs.Keeping.{IsKept}
+use Rattle.sx_refs.specs.Renewing.{unsaid_count}
 use Rattle.sx_base.specs.Held.{held_pages}
 use Rattle.sx_refs.proofs.StepLemmas.{held_same, usable_at, has_usable, next_kept}
 use Rattle.sx_follow.specs.Widened.{widened}
@@ -173,16 +174,16 @@ one_kept numbers views size layout roots table next size_now layout_now roots_no
     (other_setting size_now layout_now roots_now size layout roots next table (sym sizes) (sym layouts) (sym rootses) is)
 
 -- with sums
-pub both_kept : (numbers : List ℕ) (views : List (Option (List ℕ))) (size : ℕ) (layout : Layout) (roots : List ℤ) (table : Table) (sums : Sums) (trail : List Target) (next : ℕ → Option (List ℕ))
+pub both_kept : (numbers : List ℕ) (views : List (Option (List ℕ))) (size : ℕ) (layout : Layout) (roots : List ℤ) (table : Table) (sums : Sums) (trail : List Target) (missing : List ℕ) (next : ℕ → Option (List ℕ))
     (size_now : ℕ) (layout_now : Layout) (roots_now : List ℤ) (page_size : ℕ) → Covers numbers next → views ≡ map next numbers → layout_now.usable ≤ page_size → page_size ≤ 65536
     → ((number : ℕ) (page : List ℕ) → next number ≡ Some page → length page ≡ page_size) → ((number : ℕ) → size_now < number → next number ≡ None) → next 0 ≡ None
     → size ≡ size_now → layout ≡ layout_now → roots ≡ roots_now
     → IsGraph (graph_of size_now next layout_now roots_now) → IsGraph (widened numbers (graph_of size_now next layout_now roots_now))
     → IsTableOf (graph_of size_now next layout_now roots_now) (layout_now.usable - 4) table
     → HasFollowed (widened numbers (graph_of size_now next layout_now roots_now)) sums → trail ≡ all_roots (held_pages size_now next) layout_now roots_now
-    → IsStanding numbers views size layout roots table × IsKept numbers views layout.usable table sums trail
-both_kept numbers views size layout roots table sums trail next size_now layout_now roots_now page_size covered are fits small whole within from_one sizes layouts rootses good wide is followed trail_is = (
+    → missing ≡ map (unsaid_count (λ number. is_some (next number)) sums) numbers → IsStanding numbers views size layout roots table × IsKept numbers views layout.usable table sums trail missing
+both_kept numbers views size layout roots table sums trail missing next size_now layout_now roots_now page_size covered are fits small whole within from_one sizes layouts rootses good wide is followed trail_is missing_is = (
   one_kept numbers views size layout roots table next size_now layout_now roots_now page_size covered are fits small whole sizes layouts rootses is,
-  next_kept numbers views size_now layout_now roots_now table sums trail next page_size layout.usable (ap (λ some. some.usable) (sym layouts)) covered are fits small whole within from_one good wide
-      is followed trail_is,
+  next_kept numbers views size_now layout_now roots_now table sums trail missing next page_size layout.usable (ap (λ some. some.usable) (sym layouts)) covered are fits small whole within from_one good wide
+      is followed trail_is missing_is,
 )

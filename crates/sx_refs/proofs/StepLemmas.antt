@@ -1,10 +1,11 @@
 -- A step from the references of one moment to those of the next.
-use Rattle.std.proofs.Common.{◌≡◌, ℕ, zero, suc, ◌+◌, ◌-◌, ◌<◌, ◌≤◌, ◌==◌, Bool, true, false, cond, ℤ, List, [], ◌∷◌, ◌++◌, length, map, filter, get_or, sum_by, Option, Some, None, is_some, ◌⊎◌, inl, inr, refl, sym, ap, subst, ◌∙◌, arith}
+use Rattle.std.proofs.Common.{◌≡◌, ℕ, zero, suc, ◌+◌, ◌-◌, ◌<◌, ◌≤◌, ◌==◌, Bool, true, false, cond, ℤ, List, [], ◌∷◌, ◌++◌, length, map, filter, get_or, sum, sum_by, Option, Some, None, is_some, ◌⊎◌, inl, inr, refl, sym, ap, subst, ◌∙◌, arith}
 use Rattle.std.specs.List.{Contains, range_with_len}
 use Rattle.std.specs.Option.{option_map}
 use Rattle.std.proofs.lemmas.Bool.{eq-eqb, false≢true}
 use Rattle.std.proofs.lemmas.List.Folds.{list_any_at}
-use Rattle.std.proofs.lemmas.List.{get_or_default}
+use Rattle.std.proofs.lemmas.List.{get_or_default, get_or-map, length-map}
+use Rattle.std.proofs.lemmas.List.Sums.{sum-map}
 use Rattle.sx_base.specs.declared.layout.Layout.{Layout}
 use Rattle.sx_base.specs.Held.{held_pages}
 use Rattle.sx_closure.specs.declared.pair.Pair.{Pair}
@@ -29,6 +30,8 @@ use Rattle.sx_refs.specs.Walks.{Covers, SayOther}
 use Rattle.sx_refs.specs.Turning.{HasUsable, Exchanges, view_by, view_in, named_in, HasTurned}
 use Rattle.sx_refs.specs.Keeping.{IsKept}
 use Rattle.sx_refs.specs.Renewing.{unsaid_count, Agrees, has_rank, Renews}
+use Rattle.sx_refs.specs.Missing.{Recounts}
+use Rattle.sx_refs.proofs.MissingLemmas.{all_recounted}
 use Rattle.sx_refs.proofs.Shown.{graph_shown, is_wider, said_counts, said_ones, said_dead}
 use Rattle.sx_refs.specs.Stepping.{HasStepped}
 use Rattle.sx_refs.proofs.Views.{map_at}
@@ -92,9 +95,9 @@ usable_at usable view [] rank each = tt
 usable_at usable view (number ∷ numbers) zero each = each number
 usable_at usable view (number ∷ numbers) (suc rank) each = usable_at usable view numbers rank each
 
-pub kept_usable : (numbers : List ℕ) (views : List (Option (List ℕ))) (usable : ℕ) (table : Table) (sums : Sums) (trail : List Target)
-    → IsKept numbers views usable table sums trail → (rank : ℕ) → HasUsable usable (get_or views rank None)
-kept_usable numbers views usable table sums trail kept rank =
+pub kept_usable : (numbers : List ℕ) (views : List (Option (List ℕ))) (usable : ℕ) (table : Table) (sums : Sums) (trail : List Target) (missing : List ℕ)
+    → IsKept numbers views usable table sums trail missing → (rank : ℕ) → HasUsable usable (get_or views rank None)
+kept_usable numbers views usable table sums trail missing kept rank =
     subst (λ all. HasUsable usable (get_or all rank None)) (sym kept.views_are) (usable_at usable kept.view numbers rank kept.usable)
 
 pub has_usable : (usable page_size : ℕ) (view : Option (List ℕ)) → usable ≤ page_size → page_size ≤ 65536 → ((page : List ℕ) → view ≡ Some page → length page ≡ page_size)
@@ -103,13 +106,14 @@ has_usable usable page_size None within small whole = tt
 has_usable usable page_size (Some page) within small whole = let long = whole page refl in (omega (arith, long, within), omega (arith, long, small))
 
 pub next_kept : (numbers : List ℕ) (views : List (Option (List ℕ))) (size : ℕ) (layout : Layout) (roots : List ℤ) (table : Table) (sums : Sums) (trail : List Target)
-    (next : ℕ → Option (List ℕ)) (page_size usable : ℕ) → layout.usable ≡ usable → Covers numbers next → views ≡ map next numbers → layout.usable ≤ page_size → page_size ≤ 65536
+    (missing : List ℕ) (next : ℕ → Option (List ℕ)) (page_size usable : ℕ) → layout.usable ≡ usable → Covers numbers next → views ≡ map next numbers → layout.usable ≤ page_size → page_size ≤ 65536
     → ((number : ℕ) (page : List ℕ) → next number ≡ Some page → length page ≡ page_size)
     → ((number : ℕ) → size < number → next number ≡ None) → next 0 ≡ None → IsGraph (graph_of size next layout roots)
     → IsGraph (widened numbers (graph_of size next layout roots))
     → IsTableOf (graph_of size next layout roots) (layout.usable - 4) table → HasFollowed (widened numbers (graph_of size next layout roots)) sums
-    → trail ≡ all_roots (held_pages size next) layout roots → IsKept numbers views usable table sums trail
-next_kept numbers views size layout roots table sums trail next page_size usable bytes covered are fits small whole within from_one good wide is followed trail_is = record {
+    → trail ≡ all_roots (held_pages size next) layout roots → missing ≡ map (unsaid_count (λ number. is_some (next number)) sums) numbers
+    → IsKept numbers views usable table sums trail missing
+next_kept numbers views size layout roots table sums trail missing next page_size usable bytes covered are fits small whole within from_one good wide is followed trail_is missing_is = record {
   size = size;
   view = next;
   layout = layout;
@@ -125,12 +129,13 @@ next_kept numbers views size layout roots table sums trail next page_size usable
   table_is = subst (λ n. IsTableOf (graph_of size next layout roots) (n - 4) table) bytes is;
   followed = followed;
   trail_is = trail_is;
+  missing_is = missing_is;
 }
 
 -- ---- the sums can be followed
 
 module _ (numbers : List ℕ) (views now : List (Option (List ℕ))) (size : ℕ) (layout : Layout) (roots : List ℤ) (table : Table) (sums : Sums) (trail : List Target) (next : ℕ → Option (List ℕ))
-    (come coming gone going : List Target) (kept : IsKept numbers views layout.usable table sums trail) (covers : Covers numbers next) (now_are : now ≡ map next numbers)
+    (come coming gone going : List Target) (missing : List ℕ) (kept : IsKept numbers views layout.usable table sums trail missing) (covers : Covers numbers next) (now_are : now ≡ map next numbers)
     (turned : HasTurned next sums layout.usable numbers views now come coming gone going) where
   pub can_follow : (first last new : List Target) → first ≡ [] → last ≡ [] → new ≡ all_roots (held_pages size next) layout roots → Exchanges trail new first come last gone
       → CanFollow (widened numbers (graph_of size next layout roots)) sums coming going
@@ -258,13 +263,40 @@ module _ (prior graph : Graph) (body : ℕ) (numbers : List ℕ) (before now : T
 
 -- the step is whole
 module _ (numbers : List ℕ) (views : List (Option (List ℕ))) (size : ℕ) (layout : Layout) (roots : List ℤ) (before now : Table) (all sums : Sums) (trail : List Target)
-    (next : ℕ → Option (List ℕ)) (named lost : List Pair) (changed touched : List ℕ) (kept : IsKept numbers views layout.usable before all trail) (covers : Covers numbers next)
+    (next : ℕ → Option (List ℕ)) (named lost : List Pair) (changed touched missing counted : List ℕ) (kept : IsKept numbers views layout.usable before all trail missing) (covers : Covers numbers next)
     (within : (number : ℕ) → size < number → next number ≡ None) (from_one : next 0 ≡ None)
     (stand : (rank : ℕ) → rank < length numbers → (Contains changed rank → ⊥) → get_or views rank None ≡ next (get_or numbers rank 0))
     (good : IsGraph (graph_of size next layout roots)) (wide : IsGraph (widened numbers (graph_of size next layout roots)))
     (followed : HasFollowed (widened numbers (graph_of size next layout roots)) sums) (but : AreKeptBut named lost all sums)
     (renews : Renews (λ number. is_some (next number)) (λ page. (has_page named page ≡ true) ⊎ ((has_page lost page ≡ true) ⊎ (has_rank numbers changed page ≡ true))) sums numbers before now [] touched)
-    (dead : now.dead ≡ sums.dead + sum_by (unsaid_count (λ number. is_some (next number)) sums) numbers) where
+    (recounts : Recounts (λ number. is_some (next number)) (λ page. (has_page named page ≡ true) ⊎ ((has_page lost page ≡ true) ⊎ (has_rank numbers changed page ≡ true))) sums numbers missing counted)
+    (total : now.dead ≡ sums.dead + sum counted) where
+  same_shown : (page : ℕ) → has_rank numbers changed page ≡ false → is_some (next page) ≡ is_some (kept.view page)
+  same_shown page out = ap is_some (same_view numbers changed views kept.view next page kept.views_are kept.covered covers stand out)
+
+  -- a page that isn't told has the count that it had
+  was_counted : (rank : ℕ) → rank < length numbers → has_page named (get_or numbers rank 0) ≡ false → has_page lost (get_or numbers rank 0) ≡ false
+      → has_rank numbers changed (get_or numbers rank 0) ≡ false → get_or missing rank 0 ≡ unsaid_count (λ number. is_some (next number)) sums (get_or numbers rank 0)
+  was_counted rank low none_named none_lost none_changed =
+      let page = get_or numbers rank 0 in
+      ap (λ counts. get_or counts rank 0) kept.missing_is ∙ get_or-map (unsaid_count (λ number. is_some (kept.view number)) all) numbers rank 0 0 low
+      ∙ ap (λ b. cond b 0 (all_of (sum_of all page))) (sym (same_shown page none_changed))
+      ∙ ap (λ one. cond (is_some (next page)) 0 (all_of one)) (sym (but page none_named none_lost))
+
+  pub missing_is : counted ≡ map (unsaid_count (λ number. is_some (next number)) sums) numbers
+  missing_is =
+      all_recounted (λ number. is_some (next number)) (λ page. (has_page named page ≡ true) ⊎ ((has_page lost page ≡ true) ⊎ (has_rank numbers changed page ≡ true))) sums numbers missing counted
+      (ap length kept.missing_is ∙ length-map numbers (unsaid_count (λ number. is_some (kept.view number)) all)) recounts
+      (λ rank low.
+      let page = get_or numbers rank 0 in
+      elim (page_case named lost numbers changed page (has_page named page) (has_page lost page) (has_rank numbers changed page) refl refl refl) [
+        | inl there ↦ inl there
+        | inr none ↦ inr (was_counted rank low none.0 none.1 none.2)
+      ])
+
+  dead : now.dead ≡ sums.dead + sum_by (unsaid_count (λ number. is_some (next number)) sums) numbers
+  dead = total ∙ ap (λ n. sums.dead + n) (ap sum missing_is ∙ sum-map (unsaid_count (λ number. is_some (next number)) sums) numbers)
+
   pub has_stepped : HasStepped (graph_of size next layout roots) (layout.usable - 4) numbers before now sums touched
   has_stepped =
       let prior = graph_of kept.size kept.view kept.layout kept.roots in
@@ -273,8 +305,7 @@ module _ (numbers : List ℕ) (views : List (Option (List ℕ))) (size : ℕ) (l
       let shown : ℕ → Bool = λ number. is_some (next number) in
       let held_before : (page : ℕ) → is_held prior.held page ≡ shown_before page = λ page. graph_shown kept.size kept.view kept.layout kept.roots page kept.within kept.from_one in
       let held_now : (page : ℕ) → is_held graph.held page ≡ shown page = λ page. graph_shown size next layout roots page within from_one in
-      let same : (page : ℕ) → has_rank numbers changed page ≡ false → shown page ≡ shown_before page =
-      λ page out. ap is_some (same_view numbers changed views kept.view next page kept.views_are kept.covered covers stand out) in
+      let same : (page : ℕ) → has_rank numbers changed page ≡ false → shown page ≡ shown_before page = same_shown in
       let known = are_references_of numbers prior all kept.good kept.wide (is_wider numbers kept.size kept.view kept.layout kept.roots kept.covered kept.within kept.from_one) kept.followed in
       let is = are_references_of numbers graph sums good wide (is_wider numbers size next layout roots covers within from_one) followed in
       let paged = is_paged kept.size kept.view kept.layout kept.roots in

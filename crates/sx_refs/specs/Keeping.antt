@@ -1,5 +1,5 @@
 -- What a walk keeps of a moment, by which the next is followed.
-use Rattle.std.specs.Prelude.{◌≡◌, ℕ, ◌-◌, ◌<◌, ℤ, List, map, Option, Some, None, ⊤}
+use Rattle.std.specs.Prelude.{◌≡◌, ℕ, ◌-◌, ◌<◌, ℤ, List, map, Option, Some, None, is_some, ⊤}
 use Rattle.sx_base.specs.declared.layout.Layout.{Layout}
 use Rattle.sx_base.specs.Held.{held_pages}
 use Rattle.sx_closure.specs.declared.pair.Target.{Target}
@@ -9,12 +9,13 @@ use Rattle.sx_follow.specs.Sums.{Sums}
 use Rattle.sx_follow.specs.Following.{HasFollowed}
 use Rattle.sx_follow.specs.Widened.{widened}
 use Rattle.sx_refs.specs.Pages.{all_roots, graph_of}
+use Rattle.sx_refs.specs.Renewing.{unsaid_count}
 use Rattle.sx_refs.specs.Turning.{HasUsable}
 use Rattle.sx_refs.specs.Walks.{Covers}
 
--- the table, the sums over all numbers and the root targets are those of the pages of some moment with these views by rank,
--- of so many usable bytes
-pub record IsKept (numbers : List ℕ) (views : List (Option (List ℕ))) (usable_bytes : ℕ) (table : Table) (sums : Sums) (trail : List Target) : Type 0 where
+-- the table, the sums over all numbers, the root targets and the counts of references to pages without a view are those of the
+-- pages of some moment with these views by rank, of so many usable bytes
+pub record IsKept (numbers : List ℕ) (views : List (Option (List ℕ))) (usable_bytes : ℕ) (table : Table) (sums : Sums) (trail : List Target) (missing : List ℕ) : Type 0 where
   pub size : ℕ
   pub view : ℕ → Option (List ℕ)
   pub layout : Layout
@@ -30,8 +31,9 @@ pub record IsKept (numbers : List ℕ) (views : List (Option (List ℕ))) (usabl
   pub table_is : IsTableOf (graph_of size view layout roots) (usable_bytes - 4) table
   pub followed : HasFollowed (widened numbers (graph_of size view layout roots)) sums
   pub trail_is : trail ≡ all_roots (held_pages size view) layout roots
+  pub missing_is : missing ≡ map (unsaid_count (λ number. is_some (view number)) sums) numbers
 
 -- so they are, where there are sums
-abbrev pub IfKept : List ℕ → List (Option (List ℕ)) → ℕ → Table → Option Sums → List Target → Type 0
-IfKept numbers views usable table None trail = ⊤
-IfKept numbers views usable table (Some sums) trail = IsKept numbers views usable table sums trail
+abbrev pub IfKept : List ℕ → List (Option (List ℕ)) → ℕ → Table → Option Sums → List Target → List ℕ → Type 0
+IfKept numbers views usable table None trail missing = ⊤
+IfKept numbers views usable table (Some sums) trail missing = IsKept numbers views usable table sums trail missing

@@ -4,6 +4,7 @@
 mod anew;
 mod exchange;
 mod gather;
+mod missing;
 mod pages;
 mod renew;
 mod steady;

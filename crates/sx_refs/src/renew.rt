@@ -1,12 +1,13 @@
 //! The entries of a table written anew from sums.
-ghost use Rattle.std.specs.Prelude.{◌⊎◌, ◌<◌, ◌+◌, [], IfSome, ◌≡◌, ℕ, true, IsTrue, IfOk, is_some, length, sum_by};
+ghost use Rattle.std.specs.Prelude.{◌⊎◌, ◌<◌, [], IfSome, ◌≡◌, true, IsTrue, IfOk, is_some, length};
 ghost use Rattle.std.specs.List.{All};
 ghost use Rattle.sx_closure.specs.Graph.{Rises};
 ghost use Rattle.sx_closure.specs.Chains.{is_overflow};
 ghost use Rattle.sx_closure.specs.Tallying.{rank_of, count_at, one_at};
 ghost use Rattle.sx_follow.specs.Keeping.{has_page};
-ghost use Rattle.sx_refs.specs.Renewing.{said_count, said_one, unsaid_count, has_rank, noted, Renews};
+ghost use Rattle.sx_refs.specs.Renewing.{said_count, said_one, has_rank, noted, Renews};
 
+use crate::missing::is_shown;
 use std::alloc::{AllocError, Global};
 use sx_base::{Pages, Role};
 use sx_closure::{Pair, RefTable, Target, rank_of};
@@ -55,16 +56,6 @@ fn note(numbers: &[u32], no: u32, touched: &mut Vec<u32>) -> Result<bool, AllocE
             Err(_) => Ok(false),
         },
         None => Ok(true),
-    }
-}
-
-/// Whether a page has a view.
-fn is_shown<'a, P: Pages<'a>>(pages: &P, no: u32) -> bool
-    ensures { result ≡ is_some (P.view pages.now no) }
-{
-    match pages.page(no) {
-        Some(_) => true,
-        None => false,
     }
 }
 
@@ -200,41 +191,4 @@ pub(crate) fn renew_table<'a, P: Pages<'a>>(
     }
     table.put_dead(dead);
     Ok(Some(touched))
-}
-
-/// How many references there are to all pages without a view, by their sums. `None` where that is no number of 64 bits.
-///
-/// The cost is a look-up for each number.
-fn count_missing<'a, P: Pages<'a>>(pages: &P, sums: &Sums, numbers: &[u32]) -> Option<u64>
-    ensures { IfSome result (λ count. count ≡ sum_by (unsaid_count (λ number. is_some (P.view pages.now number)) sums.now) numbers.now) }
-{
-    let mut total: u64 = 0;
-    for number in numbers {
-        total = total.checked_add(unsaid_count(pages, sums, *number))?;
-    }
-    Some(total)
-}
-
-/// How many dead links there are: those that the sums tell, and the references to pages without a view. `None` where that is
-/// no number of 64 bits.
-///
-/// The cost is a look-up for each number.
-pub(crate) fn count_dead<'a, P: Pages<'a>>(pages: &P, sums: &Sums, numbers: &[u32]) -> Option<u64>
-    ensures { IfSome result (λ dead. dead ≡ sums.now.dead + sum_by (unsaid_count (λ number. is_some (P.view pages.now number)) sums.now) numbers.now) }
-{
-    match count_missing(pages, sums, numbers) {
-        Some(missing) => sums.dead().checked_add(missing),
-        None => None,
-    }
-}
-
-/// How many references there are by its sums to a page without a view: none where it has one.
-fn unsaid_count<'a, P: Pages<'a>>(pages: &P, sums: &Sums, no: u32) -> u64
-    ensures { result ≡ unsaid_count (λ number. is_some (P.view pages.now number)) sums.now no }
-{
-    if is_shown(pages, no) {
-        0
-    } else {
-        sums.count(no)
-    }
 }

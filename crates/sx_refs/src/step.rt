@@ -1,17 +1,19 @@
 //! One step of a walk: from the references of a moment to those of the next.
-ghost use Rattle.std.specs.Prelude.{◌≡◌, ◌-◌, ◌<◌, ◌≤◌, map, length, option_copied, IfOk, IfSome};
+ghost use Rattle.std.specs.Prelude.{◌≡◌, ◌-◌, ◌<◌, ◌≤◌, map, length, is_some, option_copied, IfOk, IfSome};
 ghost use Rattle.std.specs.List.{All};
 ghost use Rattle.sx_closure.specs.Graph.{Rises};
 ghost use Rattle.sx_base.specs.Held.{held_pages};
 ghost use Rattle.sx_refs.specs.Pages.{all_roots, graph_of};
 ghost use Rattle.sx_refs.specs.Walks.{Covers, RanksStand};
 ghost use Rattle.sx_refs.specs.Keeping.{IsKept};
+ghost use Rattle.sx_refs.specs.Renewing.{unsaid_count};
 ghost use Rattle.sx_refs.specs.Stepping.{HasStepped};
 
 use crate::exchange::{exchange, roots_of};
 use crate::gather::gather;
+use crate::missing::{Missing, count_dead};
 use crate::pages::WideLinks;
-use crate::renew::{count_dead, renew_table};
+use crate::renew::renew_table;
 use std::alloc::{AllocError, Global};
 use std::marker::PhantomData;
 use sx_base::{Layout, Pages};
@@ -33,8 +35,8 @@ pub(crate) struct Step {
 /// Follows the table and the sums to a moment with the same usable bytes, and takes the views that changed anew. `None` where
 /// that can't be done: where a way up can't be shown, or an overflow page is another. Then the table is of no use.
 ///
-/// The cost is that of reading both views of each changed page and a few look-ups for each target that comes or goes, one for
-/// each number, and some more where ways up are long. It answers `AllocError` where memory runs out.
+/// The cost is that of reading both views of each changed page and a few look-ups for each target that comes or goes, and some
+/// more where ways up are long. It answers `AllocError` where memory runs out.
 pub(crate) fn follow_step<'a, P: Pages<'a>>(
     alloc: Global,
     pages: &P,
@@ -46,6 +48,7 @@ pub(crate) fn follow_step<'a, P: Pages<'a>>(
     sums: Sums,
     old: &Kept,
     table: &mut RefTable,
+    missing: &mut Missing,
 ) -> Result<Option<Step>, AllocError>
     requires rises { Rises numbers.now }
     requires long { length views.old.items ≡ length numbers.now }
@@ -56,10 +59,11 @@ pub(crate) fn follow_step<'a, P: Pages<'a>>(
     requires least { 480 ≤ layout.now.usable }
     requires within { layout.now.usable ≤ P.page_size pages.now }
     requires small { P.page_size pages.now ≤ 65536 }
-    requires kept { IsKept numbers.now (map option_copied views.old.items) layout.now.usable table.old sums old.now }
+    requires kept { IsKept numbers.now (map option_copied views.old.items) layout.now.usable table.old sums old.now missing.old }
     ensures views { IfOk result (λ _. map option_copied views.new.items ≡ map (P.view pages.now) numbers.now) }
     ensures long { length views.new.items ≡ length numbers.now }
     ensures stepped { IfOk result (λ found. IfSome found (λ step. HasStepped (graph_of (P.pages pages.now) (P.view pages.now) layout.now roots.now) (layout.now.usable - 4) numbers.now table.old table.new step.sums step.touched.items)) }
+    ensures missing { IfOk result (λ found. IfSome found (λ step. missing.new ≡ map (unsaid_count (λ number. is_some (P.view pages.now number)) step.sums) numbers.now)) }
     ensures roots { IfOk result (λ found. IfSome found (λ step. step.roots ≡ all_roots (held_pages (P.pages pages.now) (P.view pages.now)) layout.now roots.now)) }
 {
     let mut come = Kept::new(alloc);
@@ -92,7 +96,7 @@ pub(crate) fn follow_step<'a, P: Pages<'a>>(
         Some(followed) => followed,
         None => return Ok(None),
     };
-    let dead = match count_dead(pages, &followed.sums, numbers) {
+    let dead = match count_dead(missing, pages, &followed, numbers, changed) {
         Some(dead) => dead,
         None => return Ok(None),
     };

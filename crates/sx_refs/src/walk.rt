@@ -1,5 +1,5 @@
 //! What refers to each page, at one moment after the other.
-ghost use Rattle.std.specs.Prelude.{◌≡◌, ℕ, ◌-◌, ◌<◌, ◌≤◌, ◌^◌, Option, None, IsTrue, true, map, length, slice_index_or, option_copied, IfOk, IfSome, OnOk};
+ghost use Rattle.std.specs.Prelude.{◌≡◌, ℕ, ◌-◌, ◌<◌, ◌≤◌, ◌^◌, Option, None, IsTrue, true, map, length, is_some, slice_index_or, option_copied, IfOk, IfSome, OnOk};
 ghost use Rattle.std.specs.List.{All};
 ghost use Rattle.sx_closure.specs.Graph.{Rises};
 ghost use Rattle.sx_base.specs.Held.{held_pages};
@@ -7,10 +7,12 @@ ghost use Rattle.sx_refs.specs.Pages.{all_roots, graph_of};
 ghost use Rattle.sx_closure.specs.Tallying.{IsTableOf};
 ghost use Rattle.sx_refs.specs.Walks.{Covers, RanksStand, StandBut, SayOther, StandsAt};
 ghost use Rattle.sx_refs.specs.Keeping.{IfKept};
+ghost use Rattle.sx_refs.specs.Renewing.{unsaid_count};
 ghost use Rattle.sx_refs.specs.Steady.{IsStanding, IfStanding};
 ghost use Rattle.sx_refs.specs.Stepping.{HasStepped};
 
 use crate::anew::count_anew;
+use crate::missing::Missing;
 use crate::pages::references;
 use crate::steady::all_steady;
 use crate::step::{Step, follow_step};
@@ -35,6 +37,8 @@ pub struct RefWalk<'a> {
     sums: Option<Sums>,
     // The root targets that the sums have, where there are sums.
     trail: Kept,
+    // The references to pages without a view by the sums, where there are sums.
+    missing: Missing,
     touched: Option<Vec<u32>>,
 }
 
@@ -49,14 +53,14 @@ impl<'a> Model for RefWalk<'a> {
 
     ghost view = { λ walk. record { numbers = walk.numbers.items; views = map option_copied walk.views.items; table = walk.table; touched = option_map (λ ranks. ranks.items) walk.touched } };
 
-    ghost invariant = { λ walk. Rises walk.numbers.items × (length walk.views.items ≡ length walk.numbers.items) × IfStanding walk.stands walk.numbers.items (map option_copied walk.views.items) walk.setting.size walk.setting.layout walk.setting.roots.items walk.table × IfKept walk.numbers.items (map option_copied walk.views.items) walk.setting.layout.usable walk.table walk.sums walk.trail };
+    ghost invariant = { λ walk. Rises walk.numbers.items × (length walk.views.items ≡ length walk.numbers.items) × IfStanding walk.stands walk.numbers.items (map option_copied walk.views.items) walk.setting.size walk.setting.layout walk.setting.roots.items walk.table × IfKept walk.numbers.items (map option_copied walk.views.items) walk.setting.layout.usable walk.table walk.sums walk.trail walk.missing };
 }
 
 impl<'a> RefWalk<'a> {
     /// Counts what refers to each page of the first moment, as [`references`](crate::references) does.
     ///
     /// The numbers rise, and each page with a view is among them. The cost is that of [`references`](crate::references) and a
-    /// look at each number; 20 bytes a number and the roots are taken besides, and 120 bytes a number once a step can be
+    /// look at each number; 20 bytes a number and the roots are taken besides, and 128 bytes a number once a step can be
     /// followed. It answers `AllocError` where memory runs out.
     pub fn start<P: Pages<'a>>(
         alloc: Global,
@@ -88,6 +92,7 @@ impl<'a> RefWalk<'a> {
             stands: true,
             sums: None,
             trail: Kept::new(alloc),
+            missing: Missing::none(alloc),
             touched: None,
         })
     }
@@ -99,8 +104,8 @@ impl<'a> RefWalk<'a> {
     ///
     /// Where the page size and the usable bytes are those of the moment before, each page that lost a reference still has a way
     /// of single ones from a root, and no overflow page has another reference, the table is followed, also where pages come
-    /// into view or go out of it: the cost is that of reading the changed pages twice, of a few look-ups for each reference
-    /// that comes or goes, and of one for each number. Else it is that of [`references`](crate::references) and a look at each
+    /// into view or go out of it: the cost is that of reading the changed pages twice, and of a few look-ups for each reference
+    /// that comes or goes. Else it is that of [`references`](crate::references) and a look at each
     /// changed page; and twice that of the first where the page size and the usable bytes are the same, as at the first such
     /// step behind another: then the references are counted a second time, so that the next step can follow them. But as long
     /// as there is nothing to follow, nothing is counted where the size, the layout and the roots are the same, and each
@@ -159,6 +164,7 @@ impl<'a> RefWalk<'a> {
             sums,
             &self.trail,
             &mut self.table,
+            &mut self.missing,
         )?;
         self.setting = Setting::new(self.alloc, size, layout, roots)?;
         if let Some(step) = found {
@@ -174,6 +180,7 @@ impl<'a> RefWalk<'a> {
             self.table = counted.table;
             self.sums = Some(counted.sums);
             self.trail = counted.roots;
+            self.missing = counted.missing;
             self.stands = true;
             return Ok(());
         }
@@ -295,6 +302,7 @@ fn step_from<'a, P: Pages<'a>>(
     sums: Option<Sums>,
     trail: &Kept,
     table: &mut RefTable,
+    missing: &mut Missing,
 ) -> Result<Option<Step>, AllocError>
     requires rises { Rises numbers.now }
     requires long { length views.old.items ≡ length numbers.now }
@@ -305,10 +313,11 @@ fn step_from<'a, P: Pages<'a>>(
     requires least { 480 ≤ layout.now.usable }
     requires within { layout.now.usable ≤ P.page_size pages.now }
     requires small { P.page_size pages.now ≤ 65536 }
-    requires kept { IfKept numbers.now (map option_copied views.old.items) setting.now.layout.usable table.old sums trail.now }
+    requires kept { IfKept numbers.now (map option_copied views.old.items) setting.now.layout.usable table.old sums trail.now missing.old }
     ensures views { IfOk result (λ _. map option_copied views.new.items ≡ map (P.view pages.now) numbers.now) }
     ensures long { length views.new.items ≡ length numbers.now }
     ensures stepped { IfOk result (λ found. IfSome found (λ step. HasStepped (graph_of (P.pages pages.now) (P.view pages.now) layout.now roots.now) (layout.now.usable - 4) numbers.now table.old table.new step.sums step.touched.items)) }
+    ensures missing { IfOk result (λ found. IfSome found (λ step. missing.new ≡ map (unsaid_count (λ number. is_some (P.view pages.now number)) step.sums) numbers.now)) }
     ensures roots { IfOk result (λ found. IfSome found (λ step. step.roots ≡ all_roots (held_pages (P.pages pages.now) (P.view pages.now)) layout.now roots.now)) }
 {
     match sums {
@@ -316,6 +325,7 @@ fn step_from<'a, P: Pages<'a>>(
             if setting.fits(layout) {
                 return follow_step(
                     alloc, pages, numbers, changed, views, layout, roots, sums, trail, table,
+                    missing,
                 );
             }
             look_again(pages, numbers, changed, views);
