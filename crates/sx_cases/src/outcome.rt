@@ -53,7 +53,14 @@ fn each_room_holds<R: Files + Print + AllocGlobal>(
     text: &[u8],
 ) -> io::Result<bool> {
     for room in 0..text.len() {
-        if !holds_with(rt, case, case.faults.as_slice(), room, NO_ROOM, &text[..room])? {
+        if !holds_with(
+            rt,
+            case,
+            case.faults.as_slice(),
+            room,
+            NO_ROOM,
+            &text[..room],
+        )? {
             return Ok(false);
         }
     }

@@ -4,7 +4,7 @@ use std::alloc::{AllocError, Global};
 use std::io;
 use sx_base::{Moment, Pages};
 use sx_lines::put_moment;
-use sx_map_text::{headless_totals, map_totals, put_totals_line, MapTotals};
+use sx_map_text::{MapTotals, headless_totals, map_totals, put_totals_line};
 use sx_moment::{Case, Snapshot};
 use sx_schema::schema;
 
