@@ -1,10 +1,11 @@
 -- The overflow pages of a chain, in the graph of the pages of a moment.
 use Rattle.std.proofs.Common.{◌≡◌, ℕ, Bool, true, false, cond, ℤ, List, [], ◌∷◌, ◌++◌, filter, Option, Some, None, ◌⊎◌, inl, inr, refl, sym, ap, subst, ◌∙◌}
 use Rattle.std.specs.List.{flat_map}
-use Rattle.std.proofs.lemmas.Bool.{or_right}
+use Rattle.std.proofs.lemmas.Bool.{or_right, false≢true}
 use Rattle.sx_base.specs.declared.layout.Layout.{Layout}
 use Rattle.sx_base.specs.Held.{held_pages}
 use Rattle.sx_base.specs.declared.role.Role.{Role}
+use Rattle.sx_base.specs.declared.role.Role.TheVariants.{Node, Overflow, Trunk, FreeLeaf, PointerMap}
 use Rattle.sx_closure.specs.declared.pair.Pair.{Pair}
 use Rattle.sx_closure.specs.declared.pair.Source.{Source}
 use Rattle.sx_closure.specs.declared.pair.Source.TheVariants.{Root, Cell, Page}
@@ -104,10 +105,37 @@ before_overflow graph page before target other paged one over of next =
           ap (λ t. is_role_overflow t.pair.role) (sym same) ∙ ap (λ p. is_role_overflow p.role) found.names ∙ from.1 before of over
     ]
 
--- ---- chains of overflow pages that don't change
+-- the pages of a role
+role_is : (role : Role) → is_role_overflow role ≡ true → role ≡ Overflow
+role_is Node is = absurd (false≢true is)
+role_is Overflow is = refl
+role_is Trunk is = absurd (false≢true is)
+role_is FreeLeaf is = absurd (false≢true is)
+role_is PointerMap is = absurd (false≢true is)
+
+pair_is : (pair : Pair) (page : ℕ) → pair.page ≡ page → pair.role ≡ Overflow → pair ≡ record { page = page; role = Overflow }
+pair_is pair page at role = ap (λ p. record { page = p; role = pair.role }) at ∙ ap (λ r. record { page = page; role = r }) role
+
+-- where its one reference comes from a page, that page names it as an overflow page
+pub named_as_overflow : (graph : Graph) (page before : ℕ) (target : Target) → IsPaged graph → one_reference graph page ≡ Some target → is_role_overflow target.pair.role ≡ true
+    → page_of target.source ≡ Some before → Among (graph.targets (record { page = before; role = Overflow })) target × (target.pair.page ≡ page)
+named_as_overflow graph page before target paged one over of =
+    let found = page_among page target (references graph) (only_among (references_to graph page) target one) in
+    let all = among_filter (is_reference graph.held) (all_targets graph) target found.0 in
+    elim (among_split graph.roots (flat_map graph.targets (reached graph)) target all) [
+      | inl root ↦ absurd (never_root target.source before (root_among graph.roots target paged.roots root) of)
+      | inr more ↦
+          let piece = pieces graph.targets (reached graph) target more in
+          let from = from_among piece.pair.page piece.pair.role (graph.targets piece.pair) target (paged.pairs piece.pair) piece.among in
+          let at : piece.pair.page ≡ before = same_page target.source piece.pair.page before from.0 of in
+          let role : piece.pair.role ≡ Overflow = role_is piece.pair.role (from.1 before of over) in
+          (subst (λ pair. Among (graph.targets pair) target) (pair_is piece.pair before at role) piece.among, found.1)
+    ]
+
+-- ---- the references along a chain
 
 -- the one reference of a page of a chain
-record HasOne (one : ℕ → Option Target) (page : ℕ) : Type 0 where
+pub record HasOne (one : ℕ → Option Target) (page : ℕ) : Type 0 where
   pub target : Target
   pub is : one page ≡ Some target
 
@@ -115,11 +143,11 @@ rest_one : (one : ℕ → Option Target) (page rest : ℕ) (o : Option Target) �
 rest_one one page rest None is at = let never : None ≡ Some rest = at in cc
 rest_one one page rest (Some target) is at = record { target = target; is = is }
 
-before_one : (one : ℕ → Option Target) (page before : ℕ) (o : Option Target) → one page ≡ o → page_before o ≡ Some before → HasOne one page
+pub before_one : (one : ℕ → Option Target) (page before : ℕ) (o : Option Target) → one page ≡ o → page_before o ≡ Some before → HasOne one page
 before_one one page before None is at = let never : None ≡ Some before = at in cc
 before_one one page before (Some target) is at = record { target = target; is = is }
 
-chain_one : (one : ℕ → Option Target) (rest page : ℕ) (pages : List ℕ) → IsChain one rest (page ∷ pages) → HasOne one page
+pub chain_one : (one : ℕ → Option Target) (rest page : ℕ) (pages : List ℕ) → IsChain one rest (page ∷ pages) → HasOne one page
 chain_one one rest page [] chain = rest_one one page rest (one page) refl chain
 chain_one one rest page (before ∷ pages) chain = before_one one page before (one page) refl chain.0
 
@@ -127,29 +155,3 @@ chain_one one rest page (before ∷ pages) chain = before_one one page before (o
 abbrev pub IsChained : (ℕ → Option Target) → Type 0
 IsChained one = (page before : ℕ) (target other : Target) → one page ≡ Some target → is_role_overflow target.pair.role ≡ true → page_of target.source ≡ Some before
     → one before ≡ Some other → is_role_overflow other.pair.role ≡ true
-
-chain_moved : (one other : ℕ → Option Target) (rest page : ℕ) (pages : List ℕ) → IsChained one → ((p : ℕ) → is_overflow (one p) ≡ true → other p ≡ one p)
-    → is_overflow (one page) ≡ true → IsChain one rest (page ∷ pages) → IsChain other rest (page ∷ pages)
-chain_moved one other rest page [] chained same over chain = ap rest_at (same page over) ∙ chain
-chain_moved one other rest page (before ∷ pages) chained same over chain =
-    let first = chain_one one rest page (before ∷ pages) chain in
-    let next = chain_one one rest before pages chain.1 in
-    let is : is_overflow (one before) ≡ true =
-    ap is_overflow next.is ∙ chained page before first.target next.target first.is (ap is_overflow (sym first.is) ∙ over) (ap page_before (sym first.is) ∙ chain.0) next.is in
-    (ap page_before (same page over) ∙ chain.0, chain_moved one other rest before pages chained same is chain.1)
-
-placed_moved : (one other : ℕ → Option Target) (page place rest : ℕ) → IsChained one → ((p : ℕ) → is_overflow (one p) ≡ true → other p ≡ one p)
-    → IsPlaced one page place rest → IsPlaced other page place rest
-placed_moved one other page place rest chained same is = record {
-  before = is.before;
-  chain = chain_moved one other rest page is.before chained same is.role is.chain;
-  long = is.long;
-  role = ap is_overflow (same page is.role) ∙ is.role;
-}
-
--- so the number of a page stays
-pub left_moved : (one other : ℕ → Option Target) (body page : ℕ) (left : Option ℕ) → IsChained one → IsChained other
-    → ((p : ℕ) → is_overflow (one p) ≡ true → other p ≡ one p) → ((p : ℕ) → is_overflow (other p) ≡ true → one p ≡ other p)
-    → IsLeft one body page left → IsLeft other body page left
-left_moved one other body page None chained chains same back is = λ place rest placed. is place rest (placed_moved other one page place rest chains back placed)
-left_moved one other body page (Some left) chained chains same back is = (is.0, is.1, placed_moved one other page is.0 is.1 chained same is.2, is.3)

@@ -7,7 +7,6 @@ use Rattle.std.proofs.lemmas.List.Folds.{list_any_more}
 use Rattle.sx_closure.specs.declared.pair.Pair.{Pair}
 use Rattle.sx_closure.specs.declared.pair.Target.{Target}
 use Rattle.sx_closure.specs.Graph.{Rises}
-use Rattle.sx_closure.specs.Chains.{is_overflow}
 use Rattle.sx_closure.specs.Tallying.{rank_of, entry_at, entry_of, count_of, one_of, Table, put, one_at, number_at}
 use Rattle.sx_closure.proofs.Ranks.{rank_found}
 use Rattle.sx_closure.proofs.Putting.{put_other, put_number, count_put, one_put_none, one_put_some}
@@ -96,30 +95,17 @@ notes_case before now numbers touched more own rank rises within made none other
 notes_case before now numbers touched more own rank rises within made none other (inl same) =
     absurd (none (subst (λ xs. Contains xs rank) (sym made) (noted_rank numbers own rank (rank_of numbers own) touched (rank_found numbers rank own rises within same))))
 
-old_case : (before now : Table) (own page : ℕ) → is_overflow (one_at before own) ≡ false → ((page ≡ own → ⊥) → SameEntry before now page)
-    → (page ≡ own) ⊎ (page ≡ own → ⊥) → is_overflow (one_at before page) ≡ true → one_at now page ≡ one_at before page
-old_case before now own page none other (inl same) over = absurd (false≢true (sym none ∙ ap (λ p. is_overflow (one_at before p)) (sym same) ∙ over))
-old_case before now own page none other (inr differ) over = (other differ).one
-
-new_case : (before now : Table) (own page : ℕ) → is_overflow (one_at now own) ≡ false → ((page ≡ own → ⊥) → SameEntry before now page)
-    → (page ≡ own) ⊎ (page ≡ own → ⊥) → is_overflow (one_at now page) ≡ true → one_at now page ≡ one_at before page
-new_case before now own page none other (inl same) over = absurd (false≢true (sym none ∙ ap (λ p. is_overflow (one_at now p)) (sym same) ∙ over))
-new_case before now own page none other (inr differ) over = (other differ).one
-
 pub renews_one : (shown : ℕ → Bool) (sums : Sums) (numbers : List ℕ) (before now : Table) (own count : ℕ) (one : Option Target) (touched more : List ℕ) → Rises numbers
     → count ≡ said_count shown sums own → one ≡ said_one shown sums own → now ≡ put before own (entry_of count one) → entry_at now.held now.entries own ≡ Some (entry_of count one)
-    → more ≡ noted (rank_of numbers own) touched → is_overflow (one_at before own) ≡ false → is_overflow one ≡ false → Renews shown (λ page. page ≡ own) sums numbers before now touched more
-renews_one shown sums numbers before now own count one touched more rises count_is one_is made entry noted_is old new =
+    → more ≡ noted (rank_of numbers own) touched → Renews shown (λ page. page ≡ own) sums numbers before now touched more
+renews_one shown sums numbers before now own count one touched more rises count_is one_is made entry noted_is =
     let there = renewed_there shown sums before now own count one count_is one_is entry in
     let other : (page : ℕ) → (page ≡ own → ⊥) → SameEntry before now page = λ page differ. other_entry before now own page count one made (λ same. differ (sym same)) in
-    let new_none : is_overflow (one_at now own) ≡ false = ap is_overflow (there.one ∙ sym one_is) ∙ new in
     record {
       agrees = λ page which. agrees_case shown sums before now own page there (other page) (cases_eq page own) which;
       numbers_stay = λ page. ap (λ table. number_at table page) made ∙ put_number before own (entry_of count one) page;
       grows = λ rank there_is. subst (λ xs. Contains xs rank) (sym noted_is) (noted_grows (rank_of numbers own) touched rank there_is);
       notes = λ rank within none. notes_case before now numbers touched more own rank rises within noted_is none other (cases_eq (get_or numbers rank 0) own);
-      old_overflow = λ page over. old_case before now own page old (other page) (cases_eq page own) over;
-      new_overflow = λ page over. new_case before now own page new_none (other page) (cases_eq page own) over;
     }
 
 -- ---- one after the other
@@ -134,8 +120,6 @@ renews_none shown told sums numbers table touched none = record {
   numbers_stay = λ page. refl;
   grows = λ rank there. there;
   notes = λ rank within none. record { count = refl; one = refl };
-  old_overflow = λ page over. refl;
-  new_overflow = λ page over. refl;
 }
 
 pub renews_more : (shown : ℕ → Bool) (told next all : ℕ → Type 0) (sums : Sums) (numbers : List ℕ) (before mid now : Table) (touched more most : List ℕ)
@@ -155,12 +139,6 @@ renews_more shown told next all sums numbers before mid now touched more most sp
       let one = first.notes rank within (λ there. none (second.grows rank there)) in
       let two = second.notes rank within none in
       record { count = two.count ∙ one.count; one = two.one ∙ one.one };
-  old_overflow = λ page over.
-      let one = first.old_overflow page over in
-      second.old_overflow page (ap is_overflow one ∙ over) ∙ one;
-  new_overflow = λ page over.
-      let two = second.new_overflow page over in
-      two ∙ first.new_overflow page (ap is_overflow (sym two) ∙ over);
 }
 
 -- one more pair of a list
@@ -180,8 +158,6 @@ dead_renews shown told sums numbers before now touched more dead is = record {
   numbers_stay = is.numbers_stay;
   grows = is.grows;
   notes = λ rank within none. (let old = is.notes rank within none in record { count = old.count; one = old.one });
-  old_overflow = is.old_overflow;
-  new_overflow = is.new_overflow;
 }
 
 -- and one more rank

@@ -10,8 +10,10 @@ use Rattle.sx_base.specs.declared.layout.Layout.{Layout}
 use Rattle.sx_base.specs.Held.{held_pages}
 use Rattle.sx_closure.specs.declared.pair.Pair.{Pair}
 use Rattle.sx_closure.specs.declared.pair.Target.{Target}
-use Rattle.sx_closure.specs.Graph.{Graph, IsGraph, is_held}
-use Rattle.sx_closure.specs.Chains.{one_reference, is_overflow, IsLeft}
+use Rattle.sx_base.specs.declared.role.Role.TheVariants.{Overflow}
+use Rattle.sx_closure.specs.Graph.{Graph, IsGraph, Rises, is_held}
+use Rattle.sx_closure.specs.Chains.{one_reference, page_before, is_overflow, IsLeft}
+use Rattle.sx_closure.proofs.Numbering.{Among}
 use Rattle.sx_closure.specs.Tallying.{rank_of, Table, one_at, number_at, left_at, IsTableOf}
 use Rattle.sx_closure.proofs.Tallies.{rank_is_some}
 use Rattle.sx_follow.specs.Sums.{Sums}
@@ -36,7 +38,10 @@ use Rattle.sx_refs.proofs.Shown.{graph_shown, is_wider, said_counts, said_ones, 
 use Rattle.sx_refs.specs.Stepping.{HasStepped}
 use Rattle.sx_refs.proofs.Views.{map_at}
 use Rattle.sx_refs.proofs.TurnLemmas.{rank_is}
-use Rattle.sx_refs.proofs.ChainLemmas.{IsPaged, is_paged, IsChained, before_overflow, left_moved}
+use Rattle.sx_refs.proofs.ChainLemmas.{IsPaged, is_paged, IsChained, before_overflow, named_as_overflow}
+use Rattle.sx_refs.specs.Renumbering.{is_listed, is_touched, IsRuled, HoldsAt, IsRenumbered}
+use Rattle.sx_refs.proofs.Renumbering.{all_left}
+use Rattle.sx_refs.proofs.RenumberLemmas.{listed, untouched_rank, ruled_is, left_over, most_left, left_below, all_among}
 
 -- ---- views
 
@@ -57,7 +62,7 @@ within_case held rank false (Some r) below is =
     let low = below r refl in
     omega (arith, same, low)
 
-rank_within : (numbers : List ℕ) (page rank : ℕ) → rank_of numbers page ≡ Some rank → rank < length numbers
+pub rank_within : (numbers : List ℕ) (page rank : ℕ) → rank_of numbers page ≡ Some rank → rank < length numbers
 rank_within [] page rank ranked = let never : None ≡ Some rank = ranked in cc
 rank_within (number ∷ numbers) page rank ranked =
     let low = within_case numbers rank (number == page) (rank_of numbers page) (rank_within numbers page) ranked in
@@ -183,21 +188,23 @@ same_view numbers changed views view next page are covered covers stand out =
 
 -- ---- the table that was written anew
 
-none_of : (b : Bool) → (b ≡ true → ⊥) → b ≡ false
-none_of false none = refl
-none_of true none = absurd (none refl)
-
-left_case : (before now : Table) (page : ℕ) (b : Bool) → is_overflow (one_at before page) ≡ b → number_at now page ≡ number_at before page
-    → (is_overflow (one_at before page) ≡ true → one_at now page ≡ one_at before page) → (is_overflow (one_at now page) ≡ true → one_at now page ≡ one_at before page)
-    → left_at now page ≡ left_at before page
-left_case before now page true is number old new =
-    ap (λ over. cond over (number_at now page) None) (ap is_overflow (old is)) ∙ ap (λ n. cond (is_overflow (one_at before page)) n None) number
-left_case before now page false is number old new =
-    let none : is_overflow (one_at now page) ≡ false = none_of (is_overflow (one_at now page)) (λ over. false≢true (sym is ∙ ap is_overflow (sym (new over)) ∙ over)) in
-    ap (λ over. cond over (number_at now page) None) none ∙ sym (ap (λ over. cond over (number_at before page) None) is)
-
 before_overflow_of : (graph : Graph) → IsPaged graph → IsChained (one_reference graph)
 before_overflow_of graph paged page before target other one over of next = before_overflow graph page before target other paged one over of next
+
+-- the page behind one whose number was written anew
+behind_case : (graph : Graph) (view : ℕ → Option (List ℕ)) (usable page next : ℕ) (final : Table) (o : Option Target) → IsPaged graph
+    → ((pair : Pair) → graph.targets pair ≡ if_held (view pair.page) pair usable) → HoldsAt view usable final next
+    → one_reference graph page ≡ o → is_overflow o ≡ true → page_before o ≡ Some next → IsRuled final (usable - 4) page
+behind_case graph view usable page next final None paged targets holds one over at = let never : None ≡ Some next = at in cc
+behind_case graph view usable page next final (Some target) paged targets holds one over at =
+    let named = named_as_overflow graph page next target paged one over at in
+    subst (IsRuled final (usable - 4)) named.1
+    (all_among (λ t. IsRuled final (usable - 4) t.pair.page) (if_held (view next) (record { page = next; role = Overflow }) usable) target holds.behind
+    (subst (λ xs. Among xs target) (targets (record { page = next; role = Overflow })) named.0))
+
+left_case : (before now : Table) (page : ℕ) → one_at now page ≡ one_at before page → number_at now page ≡ number_at before page → left_at now page ≡ left_at before page
+left_case before now page one number =
+    ap (λ o. cond (is_overflow o) (number_at now page) None) one ∙ ap (λ n. cond (is_overflow (one_at before page)) n None) number
 
 page_case : (named lost : List Pair) (numbers changed : List ℕ) (page : ℕ) (b c d : Bool) → has_page named page ≡ b → has_page lost page ≡ c → has_rank numbers changed page ≡ d
     → ((has_page named page ≡ true) ⊎ ((has_page lost page ≡ true) ⊎ (has_rank numbers changed page ≡ true)))
@@ -207,13 +214,16 @@ page_case named lost numbers changed page false true d is at there = inl (inr (i
 page_case named lost numbers changed page false false true is at there = inl (inr (inr there))
 page_case named lost numbers changed page false false false is at there = inr (is, at, there)
 
-module _ (prior graph : Graph) (body : ℕ) (numbers : List ℕ) (before now : Table) (all sums : Sums) (named lost : List Pair) (changed touched : List ℕ) (was : IsTableOf prior body before)
-    (shown_before shown : ℕ → Bool) (held_before : (page : ℕ) → is_held prior.held page ≡ shown_before page) (held_now : (page : ℕ) → is_held graph.held page ≡ shown page)
+module _ (prior graph : Graph) (view : ℕ → Option (List ℕ)) (usable : ℕ) (numbers : List ℕ) (before now final : Table) (all sums : Sums) (named lost : List Pair) (changed touched : List ℕ)
+    (was : IsTableOf prior (usable - 4) before) (least : 480 ≤ usable) (rises : Rises numbers) (shown_before shown : ℕ → Bool)
+    (held_before : (page : ℕ) → is_held prior.held page ≡ shown_before page) (held_now : (page : ℕ) → is_held graph.held page ≡ shown page)
     (same : (page : ℕ) → has_rank numbers changed page ≡ false → shown page ≡ shown_before page)
+    (unranked_before : (page : ℕ) → rank_of numbers page ≡ None → shown_before page ≡ false) (unranked : (page : ℕ) → rank_of numbers page ≡ None → shown page ≡ false)
     (known : AreReferencesOf prior all) (is : AreReferencesOf graph sums) (kept : AreKeptBut named lost all sums)
     (renews : Renews shown (λ page. (has_page named page ≡ true) ⊎ ((has_page lost page ≡ true) ⊎ (has_rank numbers changed page ≡ true))) sums numbers before now [] touched)
+    (renumbered : IsRenumbered view usable numbers touched now final)
     (held : sums.held ≡ numbers) (dead : now.dead ≡ sums.dead + sum_by (unsaid_count shown sums) numbers)
-    (paged : IsPaged prior) (pages : IsPaged graph) where
+    (paged : IsPaged prior) (pages : IsPaged graph) (targets : (pair : Pair) → graph.targets pair ≡ if_held (view pair.page) pair usable) where
   stays : (page : ℕ) → has_page named page ≡ false → has_page lost page ≡ false → has_rank numbers changed page ≡ false → Agrees shown before sums page
   stays page none_named none_lost none_changed =
       let sum = kept page none_named none_lost in
@@ -235,34 +245,63 @@ module _ (prior graph : Graph) (body : ℕ) (numbers : List ℕ) (before now : T
   one_before : (page : ℕ) → one_at before page ≡ one_reference prior page
   one_before page = was.ones page
 
-  one_now : (page : ℕ) → one_at now page ≡ one_reference graph page
-  one_now page = (agrees page).one ∙ said_ones graph shown sums held_now is page
+  one_final : (page : ℕ) → one_at final page ≡ one_reference graph page
+  one_final page = renumbered.renumbers.one page ∙ (agrees page).one ∙ said_ones graph shown sums held_now is page
 
-  forward : (page : ℕ) → is_overflow (one_reference prior page) ≡ true → one_reference graph page ≡ one_reference prior page
-  forward page over = sym (one_now page) ∙ renews.old_overflow page (ap is_overflow (one_before page) ∙ over) ∙ one_before page
+  -- a page that isn't touched has the reference and the number that it had
+  untouched_case : (page : ℕ) (o : Option ℕ) → rank_of numbers page ≡ o → is_listed touched o ≡ false → one_reference graph page ≡ one_reference prior page
+  untouched_case page None ranked out =
+      sym (said_ones graph shown sums held_now is page) ∙ ap (λ b. cond b (one_in page (sum_of sums page)) None) (unranked page ranked)
+      ∙ sym (ap (λ b. cond b (one_in page (sum_of all page)) None) (unranked_before page ranked)) ∙ said_ones prior shown_before all held_before known page
+  untouched_case page (Some rank) ranked out =
+      let entry = renews.notes rank (rank_within numbers page rank ranked) (λ there. false≢true (sym out ∙ listed touched rank there)) in
+      let at : get_or numbers rank 0 ≡ page = rank_is numbers page rank ranked in
+      sym (one_final page) ∙ renumbered.renumbers.one page ∙ subst (λ p. one_at now p ≡ one_at before p) at entry.one ∙ one_before page
 
-  backward : (page : ℕ) → is_overflow (one_reference graph page) ≡ true → one_reference prior page ≡ one_reference graph page
-  backward page over = sym (one_before page) ∙ sym (renews.new_overflow page (ap is_overflow (one_now page) ∙ over)) ∙ one_now page
+  same_one : (page : ℕ) → is_touched numbers touched page ≡ false → one_reference graph page ≡ one_reference prior page
+  same_one page out = untouched_case page (rank_of numbers page) refl out
 
-  left_stays : (page : ℕ) → left_at now page ≡ left_at before page
-  left_stays page = left_case before now page (is_overflow (one_at before page)) refl (renews.numbers_stay page) (renews.old_overflow page) (renews.new_overflow page)
+  same_left : (page : ℕ) → is_touched numbers touched page ≡ false → left_at final page ≡ left_at before page
+  same_left page out =
+      left_case before final page (one_final page ∙ same_one page out ∙ sym (one_before page))
+      (renumbered.renumbers.number page out ∙ renews.numbers_stay page)
 
-  pub table_is : IsTableOf graph body now
+  over_final : (page : ℕ) → is_overflow (one_reference graph page) ≡ true → is_overflow (one_at final page) ≡ true
+  over_final page over = ap is_overflow (one_final page) ∙ over
+
+  lefts : (page : ℕ) → IsLeft (one_reference graph) (usable - 4) page (left_at final page)
+  lefts page =
+      all_left (one_reference graph) (one_reference prior) (left_at final) (left_at before) (is_touched numbers touched) (usable - 4) (most_left final) (omega (arith, least))
+      (λ p left some. ap is_overflow (sym (one_final p)) ∙ left_over final p left some)
+      (left_below final) (before_overflow_of graph pages) (before_overflow_of prior paged) was.lefts same_one same_left
+      (λ p there over. (renumbered.holds p there).ruled (over_final p over) ∙ ruled_is final (usable - 4) p (one_reference graph p) (one_final p))
+      (λ p next there over at. (renumbered.holds p there).goes_on next (over_final p over) (ap page_before (one_final p) ∙ at))
+      (λ p next there over at.
+      behind_case graph view usable p next final (one_reference graph p) pages targets (renumbered.holds next there) refl over at (over_final p over)
+      ∙ ruled_is final (usable - 4) p (one_reference graph p) (one_final p))
+      page
+
+  pub table_is : IsTableOf graph (usable - 4) final
   table_is = record {
-    counts = λ page. (agrees page).count ∙ said_counts graph shown sums held_now is page;
-    ones = one_now;
-    dead = said_dead graph shown sums held_now is numbers now.dead held dead;
-    lefts = λ page. subst (IsLeft (one_reference graph) body page) (sym (left_stays page))
-        (left_moved (one_reference prior) (one_reference graph) body page (left_at before page) (before_overflow_of prior paged) (before_overflow_of graph pages) forward backward (was.lefts page));
+    counts = λ page. renumbered.renumbers.count page ∙ (agrees page).count ∙ said_counts graph shown sums held_now is page;
+    ones = one_final;
+    dead = renumbered.renumbers.dead ∙ said_dead graph shown sums held_now is numbers now.dead held dead;
+    lefts = lefts;
   }
 
-  pub say_other : SayOther numbers before now (Some touched)
+  pub say_other : SayOther numbers before final (Some touched)
   say_other rank within none =
-      let same = renews.notes rank within none in
-      record { count = same.count; one = same.one; left = left_stays (get_or numbers rank 0) }
+      let page = get_or numbers rank 0 in
+      let entry = renews.notes rank within none in
+      let out = untouched_rank numbers touched rank rises within none in
+      record {
+        count = renumbered.renumbers.count page ∙ entry.count;
+        one = renumbered.renumbers.one page ∙ entry.one;
+        left = same_left page out;
+      }
 
 -- the step is whole
-module _ (numbers : List ℕ) (views : List (Option (List ℕ))) (size : ℕ) (layout : Layout) (roots : List ℤ) (before now : Table) (all sums : Sums) (trail : List Target)
+module _ (numbers : List ℕ) (views : List (Option (List ℕ))) (size : ℕ) (layout : Layout) (roots : List ℤ) (before now final : Table) (all sums : Sums) (trail : List Target)
     (next : ℕ → Option (List ℕ)) (named lost : List Pair) (changed touched missing counted : List ℕ) (kept : IsKept numbers views layout.usable before all trail missing) (covers : Covers numbers next)
     (within : (number : ℕ) → size < number → next number ≡ None) (from_one : next 0 ≡ None)
     (stand : (rank : ℕ) → rank < length numbers → (Contains changed rank → ⊥) → get_or views rank None ≡ next (get_or numbers rank 0))
@@ -270,7 +309,8 @@ module _ (numbers : List ℕ) (views : List (Option (List ℕ))) (size : ℕ) (l
     (followed : HasFollowed (widened numbers (graph_of size next layout roots)) sums) (but : AreKeptBut named lost all sums)
     (renews : Renews (λ number. is_some (next number)) (λ page. (has_page named page ≡ true) ⊎ ((has_page lost page ≡ true) ⊎ (has_rank numbers changed page ≡ true))) sums numbers before now [] touched)
     (recounts : Recounts (λ number. is_some (next number)) (λ page. (has_page named page ≡ true) ⊎ ((has_page lost page ≡ true) ⊎ (has_rank numbers changed page ≡ true))) sums numbers missing counted)
-    (total : now.dead ≡ sums.dead + sum counted) where
+    (total : now.dead ≡ sums.dead + sum counted) (rises : Rises numbers) (least : 480 ≤ layout.usable)
+    (renumbered : IsRenumbered next layout.usable numbers touched now final) where
   same_shown : (page : ℕ) → has_rank numbers changed page ≡ false → is_some (next page) ≡ is_some (kept.view page)
   same_shown page out = ap is_some (same_view numbers changed views kept.view next page kept.views_are kept.covered covers stand out)
 
@@ -297,7 +337,11 @@ module _ (numbers : List ℕ) (views : List (Option (List ℕ))) (size : ℕ) (l
   dead : now.dead ≡ sums.dead + sum_by (unsaid_count (λ number. is_some (next number)) sums) numbers
   dead = total ∙ ap (λ n. sums.dead + n) (ap sum missing_is ∙ sum-map (unsaid_count (λ number. is_some (next number)) sums) numbers)
 
-  pub has_stepped : HasStepped (graph_of size next layout roots) (layout.usable - 4) numbers before now sums touched
+  unranked_next : (view : ℕ → Option (List ℕ)) → Covers numbers view → (page : ℕ) → rank_of numbers page ≡ None → is_some (view page) ≡ false
+  unranked_next view covered page ranked = ap is_some (sym (by_case numbers view page None covered ranked))
+
+  pub has_stepped : HasStepped (graph_of size next layout roots) (layout.usable - 4) numbers before final sums touched
+  unfolding graph_of
   has_stepped =
       let prior = graph_of kept.size kept.view kept.layout kept.roots in
       let graph = graph_of size next layout roots in
@@ -305,7 +349,6 @@ module _ (numbers : List ℕ) (views : List (Option (List ℕ))) (size : ℕ) (l
       let shown : ℕ → Bool = λ number. is_some (next number) in
       let held_before : (page : ℕ) → is_held prior.held page ≡ shown_before page = λ page. graph_shown kept.size kept.view kept.layout kept.roots page kept.within kept.from_one in
       let held_now : (page : ℕ) → is_held graph.held page ≡ shown page = λ page. graph_shown size next layout roots page within from_one in
-      let same : (page : ℕ) → has_rank numbers changed page ≡ false → shown page ≡ shown_before page = same_shown in
       let known = are_references_of numbers prior all kept.good kept.wide (is_wider numbers kept.size kept.view kept.layout kept.roots kept.covered kept.within kept.from_one) kept.followed in
       let is = are_references_of numbers graph sums good wide (is_wider numbers size next layout roots covers within from_one) followed in
       let paged = is_paged kept.size kept.view kept.layout kept.roots in
@@ -313,9 +356,9 @@ module _ (numbers : List ℕ) (views : List (Option (List ℕ))) (size : ℕ) (l
       record {
         good = good;
         wide = wide;
-        table = table_is prior graph (layout.usable - 4) numbers before now all sums named lost changed touched kept.table_is shown_before shown held_before held_now same known is but renews
-            followed.held_is dead paged pages;
+        table = table_is prior graph next layout.usable numbers before now final all sums named lost changed touched kept.table_is least rises shown_before shown held_before held_now same_shown
+            (unranked_next kept.view kept.covered) (unranked_next next covers) known is but renews renumbered followed.held_is dead paged pages (λ pair. refl);
         followed = followed;
-        others = say_other prior graph (layout.usable - 4) numbers before now all sums named lost changed touched kept.table_is shown_before shown held_before held_now same known is but renews
-            followed.held_is dead paged pages;
+        others = say_other prior graph next layout.usable numbers before now final all sums named lost changed touched kept.table_is least rises shown_before shown held_before held_now same_shown
+            (unranked_next kept.view kept.covered) (unranked_next next covers) known is but renews renumbered followed.held_is dead paged pages (λ pair. refl);
       }

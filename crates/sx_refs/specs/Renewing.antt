@@ -2,7 +2,6 @@
 use Rattle.std.specs.Prelude.{◌≡◌, ℕ, ◌<◌, ◌==◌, ◌⊎◌, Bool, true, if◌then◌else◌, List, [], ◌∷◌, ◌++◌, length, slice_index, Option, Some, None}
 use Rattle.std.specs.List.{Contains, list_any}
 use Rattle.sx_closure.specs.declared.pair.Target.{Target}
-use Rattle.sx_closure.specs.Chains.{is_overflow}
 use Rattle.sx_closure.specs.Tallying.{Table, count_at, one_at, number_at}
 use Rattle.sx_follow.specs.Sums.{Sums}
 use Rattle.sx_follow.specs.Climbing.{all_of}
@@ -41,11 +40,9 @@ noted None touched = touched
 noted (Some rank) touched = touched ++ rank ∷ []
 
 -- from one table to the next the pages that are told agree with the sums, and what agreed before; the ranks of those that
--- changed are put behind a list; and neither numbers nor overflow pages change
+-- changed are put behind a list; and numbers don't change
 pub record Renews (shown : ℕ → Bool) (told : ℕ → Type 0) (sums : Sums) (numbers : List ℕ) (before now : Table) (touched more : List ℕ) : Type 0 where
   pub agrees : (page : ℕ) → told page ⊎ Agrees shown before sums page → Agrees shown now sums page
   pub numbers_stay : (page : ℕ) → number_at now page ≡ number_at before page
   pub grows : (rank : ℕ) → Contains touched rank → Contains more rank
   pub notes : (rank : ℕ) → rank < length numbers → (Contains more rank → ⊥) → SameEntry before now (slice_index numbers rank)
-  pub old_overflow : (page : ℕ) → is_overflow (one_at before page) ≡ true → one_at now page ≡ one_at before page
-  pub new_overflow : (page : ℕ) → is_overflow (one_at now page) ≡ true → one_at now page ≡ one_at before page

@@ -7,6 +7,7 @@ mod gather;
 mod missing;
 mod pages;
 mod renew;
+mod renumber;
 mod steady;
 mod step;
 mod targets;

@@ -2,14 +2,13 @@
 ghost use Rattle.std.specs.Prelude.{◌⊎◌, ◌<◌, [], IfSome, ◌≡◌, true, IsTrue, IfOk, is_some, length};
 ghost use Rattle.std.specs.List.{All};
 ghost use Rattle.sx_closure.specs.Graph.{Rises};
-ghost use Rattle.sx_closure.specs.Chains.{is_overflow};
 ghost use Rattle.sx_closure.specs.Tallying.{rank_of, count_at, one_at};
 ghost use Rattle.sx_follow.specs.Keeping.{has_page};
 ghost use Rattle.sx_refs.specs.Renewing.{said_count, said_one, has_rank, noted, Renews};
 
 use crate::missing::is_shown;
 use std::alloc::{AllocError, Global};
-use sx_base::{Pages, Role};
+use sx_base::Pages;
 use sx_closure::{Pair, RefTable, Target, rank_of};
 use sx_follow::{Followed, Sums};
 
@@ -21,16 +20,6 @@ fn same_one(one: Option<Target>, other: Option<Target>) -> bool
         (Some(one), Some(other)) => one == other,
         (None, None) => true,
         _ => false,
-    }
-}
-
-/// Whether a reference is of the role of overflow pages.
-fn is_overflow(one: Option<Target>) -> bool
-    ensures { result ≡ is_overflow one }
-{
-    match one {
-        Some(target) => target.pair.role == Role::Overflow,
-        None => false,
     }
 }
 
@@ -82,7 +71,7 @@ fn said_one<'a, P: Pages<'a>>(pages: &P, sums: &Sums, no: u32) -> Option<Option<
 }
 
 /// Writes the entry of page `no` anew where the sums say something else, and puts its rank behind the list of those that
-/// changed: whether that can be done, with no overflow page before or after.
+/// changed: whether that can be done.
 fn renew<'a, P: Pages<'a>>(
     table: &mut RefTable,
     pages: &P,
@@ -102,9 +91,6 @@ fn renew<'a, P: Pages<'a>>(
     if says(table, no, count, one) {
         return Ok(true);
     }
-    if is_overflow(table.one(no)) || is_overflow(one) {
-        return Ok(false);
-    }
     if !table.put(no, count, one) {
         return Ok(false);
     }
@@ -113,8 +99,7 @@ fn renew<'a, P: Pages<'a>>(
 }
 
 /// Writes the entry of the page of each of these pairs anew where the sums say something else, and puts its rank behind the
-/// list of those that changed: whether that can be done, with no overflow page before or after. Where it can't, the table
-/// is of no use.
+/// list of those that changed: whether that can be done. Where it can't, the table is of no use.
 ///
 /// The cost is a few look-ups for each pair. It answers `AllocError` where memory runs out.
 fn renew_all<'a, P: Pages<'a>>(
@@ -159,8 +144,9 @@ fn renew_ranks<'a, P: Pages<'a>>(
 }
 
 /// Writes the table of one moment anew to that of the next, of which the sums were followed, and of which the pages of these
-/// ranks may have other views: the ranks of the pages of which it says something else now. `None` where that can't be done,
-/// since an overflow page is among them: then the table is of no use.
+/// ranks may have other views: the ranks of the pages of which it says something else now, in the order in which they were
+/// named. How many bytes of a payload are still to come at overflow pages isn't written. `None` where it can't be done: then
+/// the table is of no use.
 ///
 /// The cost is a few look-ups for each target that was added or taken back, and for each rank. It answers `AllocError` where
 /// memory runs out.

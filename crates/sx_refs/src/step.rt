@@ -14,6 +14,7 @@ use crate::gather::gather;
 use crate::missing::{Missing, count_dead};
 use crate::pages::WideLinks;
 use crate::renew::renew_table;
+use crate::renumber::renumber;
 use std::alloc::{AllocError, Global};
 use std::marker::PhantomData;
 use sx_base::{Layout, Pages};
@@ -33,7 +34,8 @@ pub(crate) struct Step {
 }
 
 /// Follows the table and the sums to a moment with the same usable bytes, and takes the views that changed anew. `None` where
-/// that can't be done: where a way up can't be shown, or an overflow page is another. Then the table is of no use.
+/// that can't be done: where a way up can't be shown, or the pages of a chain aren't met in its order. Then the table is of no
+/// use.
 ///
 /// The cost is that of reading both views of each changed page and a few look-ups for each target that comes or goes, and some
 /// more where ways up are long. It answers `AllocError` where memory runs out.
@@ -100,12 +102,17 @@ pub(crate) fn follow_step<'a, P: Pages<'a>>(
         Some(dead) => dead,
         None => return Ok(None),
     };
-    match renew_table(alloc, table, pages, &followed, numbers, changed, dead)? {
-        Some(touched) => Ok(Some(Step {
-            sums: followed.sums,
-            roots: new,
-            touched,
-        })),
-        None => Ok(None),
+    let renewed = renew_table(alloc, table, pages, &followed, numbers, changed, dead)?;
+    let touched = match renewed {
+        Some(touched) => touched,
+        None => return Ok(None),
+    };
+    if !renumber(alloc, table, pages, numbers, &touched, layout.usable)? {
+        return Ok(None);
     }
+    Ok(Some(Step {
+        sums: followed.sums,
+        roots: new,
+        touched,
+    }))
 }

@@ -18,11 +18,11 @@ fn first(rt: &impl Abort) -> [u8; 512] {
     page_with(rt, 100, b"\x0d")
 }
 
-/// A leaf of a table with one row of 1505 bytes, 39 of them in its cell, that goes on at page 3.
-fn spilled(rt: &impl Abort) -> [u8; 512] {
+/// A leaf of a table with one row of 1505 bytes, 39 of them in its cell, that goes on at this page.
+fn spilled(rt: &impl Abort, next: u8) -> [u8; 512] {
     let mut page = page_with(rt, 0, b"\x0d\x00\x00\x00\x01\x01\xd2\x00\x01\xd2");
     page[466..469].copy_from_slice(b"\x8b\x61\x01");
-    page[511] = 3;
+    page[511] = next;
     page
 }
 
@@ -100,7 +100,7 @@ fn assert_chain(
     fifth: Option<u32>,
     sixth: Said,
 ) -> Result<(), Fail> {
-    let (head, leaf) = (first(rt), spilled(rt));
+    let (head, leaf) = (first(rt), spilled(rt, 3));
     let (third, middle, last) = (linked(rt, 4), linked(rt, 5), linked(rt, link));
     let empty = [0; 512];
     let cell = Source::Cell { page: 2, cell: 0 };
@@ -137,46 +137,6 @@ fn overflow_pages_are_numbered_from_their_cell(rt: HostRuntime) -> Result<(), Fa
     assert_chain(&rt, alloc, 6, 1, Some(450), past)?;
     // in a circle
     assert_chain(&rt, alloc, 4, 2, None, (0, None, None))
-}
-
-#[test]
-fn children_are_counted_with_repeats(rt: HostRuntime) -> Result<(), Fail> {
-    let alloc = rt.alloc();
-    let (head, leaf) = (first(&rt), page_with(&rt, 0, b"\x0d"));
-    let (both, own) = (interior(&rt, 3, 3), interior(&rt, 2, 3));
-    let nothing = (2, None, None);
-    let right = (1, Some((Role::Node, Source::Page(2))), None);
-    let three = layout(3, false, 0);
-    assert_table(
-        &rt,
-        alloc,
-        &[&head, &both, &leaf],
-        &three,
-        &[2],
-        &[ROOT, ROOT, nothing],
-        0,
-    )?;
-    assert_table(
-        &rt,
-        alloc,
-        &[&head, &own, &leaf],
-        &three,
-        &[2],
-        &[ROOT, nothing, right],
-        0,
-    )?;
-    // roots that aren't pages, one that is none and one that is named twice
-    let roots = [-1, 9, 0, 1 << 32, 3, 3];
-    let unreached = (0, None, None);
-    assert_table(
-        &rt,
-        alloc,
-        &[&head, &leaf, &leaf],
-        &three,
-        &roots,
-        &[ROOT, unreached, nothing],
-        3,
-    )
 }
 
 #[test]
@@ -271,5 +231,17 @@ fn a_walk_goes_on_with_the_pages_that_changed(rt: HostRuntime) -> Result<(), Fai
     let circle: [&[u8]; 5] = [&head, &both, &none, &one, &two];
     let lost: [&[u8]; 5] = [&head, &none, &none, &one, &two];
     assert_eq!(rt; walked(&rt, alloc, &circle, &lost)?, None);
+    Ok(())
+}
+
+#[test]
+fn a_walk_numbers_the_pages_of_another_chain(rt: HostRuntime) -> Result<(), Fail> {
+    let alloc = rt.alloc();
+    let (head, leaf, end) = (first(&rt), page_with(&rt, 0, b"\x0d"), [0; 512]);
+    let (some, other) = (spilled(&rt, 4), spilled(&rt, 5));
+    let (fifth, fourth) = (linked(&rt, 5), linked(&rt, 4));
+    let before: [&[u8]; 5] = [&head, &some, &leaf, &fifth, &end];
+    let after: [&[u8]; 5] = [&head, &other, &leaf, &end, &fourth];
+    assert_eq!(rt; walked(&rt, alloc, &before, &after)?, Some(2));
     Ok(())
 }
