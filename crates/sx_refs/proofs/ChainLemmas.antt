@@ -11,7 +11,7 @@ use Rattle.sx_closure.specs.declared.pair.Source.{Source}
 use Rattle.sx_closure.specs.declared.pair.Source.TheVariants.{Root, Cell, Page}
 use Rattle.sx_closure.specs.declared.pair.Target.{Target}
 use Rattle.sx_closure.specs.Graph.{same_pair, is_in, Graph, is_reference, reached, all_targets, references, references_to}
-use Rattle.sx_closure.specs.Chains.{one_reference, page_of, page_before, rest_at, is_role_overflow, is_overflow, IsChain, IsPlaced, IsLeft}
+use Rattle.sx_closure.specs.Chains.{one_reference, page_of, page_before, rest_at, is_role_overflow, IsChain}
 use Rattle.sx_closure.proofs.Pairs.{is_in_head}
 use Rattle.sx_closure.proofs.Numbering.{Among, only_among, only_is, page_among}
 use Rattle.sx_closure.proofs.Standing.{reference_to}

@@ -7,7 +7,7 @@ use Rattle.std.proofs.lemmas.List.Folds.{list_any_more}
 use Rattle.sx_closure.specs.declared.pair.Pair.{Pair}
 use Rattle.sx_closure.specs.declared.pair.Target.{Target}
 use Rattle.sx_closure.specs.Graph.{Rises}
-use Rattle.sx_closure.specs.Tallying.{rank_of, entry_at, entry_of, count_of, one_of, Table, put, one_at, number_at}
+use Rattle.sx_closure.specs.Tallying.{rank_of, entry_at, entry_of, count_of, one_of, Table, put, number_at}
 use Rattle.sx_closure.proofs.Ranks.{rank_found}
 use Rattle.sx_closure.proofs.Putting.{put_other, put_number, count_put, one_put_none, one_put_some}
 use Rattle.sx_follow.specs.declared.sums.Sum.{Sum}

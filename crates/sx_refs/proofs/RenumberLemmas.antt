@@ -1,5 +1,5 @@
 -- Numbers of overflow pages, written anew one after the other.
-use Rattle.std.proofs.Common.{◌≡◌, ℕ, zero, suc, ◌+◌, ◌-◌, ◌<◌, ◌≤◌, ◌==◌, ◌||◌, Bool, true, false, cond, List, [], ◌∷◌, length, take, get_or, sum_by, Option, Some, None, ◌⊎◌, inl, inr, refl, sym, ap, subst, ◌∙◌, arith}
+use Rattle.std.proofs.Common.{◌≡◌, ℕ, zero, suc, ◌+◌, ◌<◌, ◌≤◌, ◌==◌, Bool, true, false, cond, List, [], ◌∷◌, length, take, get_or, sum_by, Option, Some, None, inl, inr, refl, sym, ap, subst, ◌∙◌, arith}
 use Rattle.std.specs.List.{Contains, list_any, All}
 use Rattle.std.specs.Option.{option_map}
 use Rattle.std.proofs.lemmas.Bool.{eq-eqb, eqb-true, or_cases, or_left, or_right, false≢true, cases_lt}
@@ -17,7 +17,6 @@ use Rattle.sx_closure.proofs.Numbering.{Among}
 use Rattle.sx_closure.proofs.Putting.{put_left_other, put_left_entry, put_left_dead}
 use Rattle.sx_closure.proofs.Ranks.{rank_found}
 use Rattle.sx_refs.specs.Renumbering.{is_listed, is_touched, Renumbers, HoldsAt}
-use Rattle.sx_refs.proofs.TurnLemmas.{rank_is}
 use Rattle.sx_refs.proofs.Renumbering.{left_by}
 
 -- ---- ranks that are listed

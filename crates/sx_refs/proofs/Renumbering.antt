@@ -5,9 +5,9 @@ use Rattle.std.specs.Option.{option_map}
 use Rattle.sx_closure.specs.declared.pair.Source.{Source}
 use Rattle.sx_closure.specs.declared.pair.Source.TheVariants.{Root, Cell, Page}
 use Rattle.sx_closure.specs.declared.pair.Target.{Target}
-use Rattle.sx_closure.specs.Chains.{page_of, page_before, rest_of, rest_at, IsChain, is_overflow, IsPlaced, IsLeft, number_by, number_of}
+use Rattle.sx_closure.specs.Chains.{page_of, page_before, rest_of, rest_at, IsChain, is_overflow, IsLeft, number_by, number_of}
 use Rattle.sx_closure.proofs.Numbering.{IsNumber, number_step, left_is}
-use Rattle.sx_refs.proofs.ChainLemmas.{HasOne, before_one, chain_one, IsChained}
+use Rattle.sx_refs.proofs.ChainLemmas.{before_one, chain_one, IsChained}
 
 either : (b : Bool) → (b ≡ true) ⊎ (b ≡ false)
 either true = inl refl

@@ -3,7 +3,6 @@
 use Rattle.std.specs.Prelude.{◌≡◌, ℕ, ◌-◌, ◌==◌, Bool, true, false, List, Option, Some, None}
 use Rattle.std.specs.List.{list_any, All}
 use Rattle.sx_base.specs.declared.role.Role.TheVariants.{Overflow}
-use Rattle.sx_closure.specs.declared.pair.Target.{Target}
 use Rattle.sx_closure.specs.Chains.{page_before, is_overflow}
 use Rattle.sx_closure.specs.Tallying.{Table, rank_of, count_at, one_at, number_at, left_at, ruled}
 use Rattle.sx_refs.specs.Pages.{if_held}

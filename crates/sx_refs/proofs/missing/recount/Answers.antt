@@ -1,4 +1,4 @@
-use Rattle.std.proofs.Common.{◌≡◌, ◌<◌, ℕ, List, length, Some, is_some, sym, subst, arith}
+use Rattle.std.proofs.Common.{◌≡◌, ◌<◌, ℕ, length, is_some, sym, subst, arith}
 use Rattle.sx_refs.specs.Missing.{Recounts}
 use Rattle.sx_refs.proofs.MissingLemmas.{recounts_one, recounts_other}
 use Rattle.sx_refs.proofs.missing.recount.Goals as goal

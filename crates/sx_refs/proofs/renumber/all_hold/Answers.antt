@@ -1,7 +1,7 @@
-use Rattle.std.proofs.Common.{◌≡◌, ◌<◌, ◌∙◌, ℕ, true, get_or, length, take_all, ap, sym, subst, arith}
+use Rattle.std.proofs.Common.{◌<◌, ◌∙◌, get_or, length, ap, sym, subst}
 use Rattle.std.proofs.lemmas.Bool.{lt-ltb, ltb-true, false≢true}
 use Rattle.std.proofs.lemmas.List.{get_or_default}
-use Rattle.sx_refs.specs.Renumbering.{is_touched, HoldsAt}
+use Rattle.sx_refs.specs.Renumbering.{HoldsAt}
 use Rattle.sx_refs.proofs.TurnLemmas.{rank_is}
 use Rattle.sx_refs.proofs.StepLemmas.{rank_within}
 use Rattle.sx_refs.proofs.RenumberLemmas.{holds_more}

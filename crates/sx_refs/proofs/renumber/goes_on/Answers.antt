@@ -1,4 +1,4 @@
-use Rattle.std.proofs.Common.{◌≡◌, ℕ, Option, Some, ap, sym, ◌∙◌}
+use Rattle.std.proofs.Common.{◌≡◌, Some, ap, sym, ◌∙◌}
 use Rattle.sx_closure.specs.Chains.{page_before}
 use Rattle.sx_closure.specs.Tallying.{one_at, left_at}
 use Rattle.sx_refs.proofs.RenumberLemmas.{page_by_source}
