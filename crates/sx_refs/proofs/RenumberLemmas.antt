@@ -1,11 +1,12 @@
 -- Numbers of overflow pages, written anew one after the other.
-use Rattle.std.proofs.Common.{◌≡◌, ℕ, zero, suc, ◌+◌, ◌<◌, ◌≤◌, ◌==◌, Bool, true, false, cond, List, [], ◌∷◌, length, take, get_or, sum_by, Option, Some, None, inl, inr, refl, sym, ap, subst, ◌∙◌, arith}
+use Rattle.std.proofs.Common.{◌≡◌, ℕ, zero, suc, ◌+◌, ◌<◌, ◌≤◌, ◌==◌, Bool, true, false, cond, List, [], ◌∷◌, ◌++◌, length, take, get_or, sum_by, Option, Some, None, inl, inr, refl, sym, ap, subst, ◌∙◌, arith}
 use Rattle.std.specs.List.{Contains, list_any, All}
 use Rattle.std.specs.Option.{option_map}
-use Rattle.std.proofs.lemmas.Bool.{eq-eqb, eqb-true, or_cases, or_left, or_right, false≢true, cases_lt}
+use Rattle.std.proofs.lemmas.Bool.{eq-eqb, eqb-true, or_cases, false≢true, cases_lt}
 use Rattle.std.proofs.Math.ListN.{get_or-eq_default}
+use Rattle.std.proofs.lemmas.List.{get_or_default}
 use Rattle.std.proofs.lemmas.List.Sums.{get_or-le-sum_by}
-use Rattle.std.proofs.lemmas.List.Elements.{All-head, All-tail}
+use Rattle.std.proofs.lemmas.List.Elements.{All-head, All-tail, Contains-push, Contains-append_left}
 use Rattle.std.proofs.lemmas.List.Folds.{list_any_more, list_any_at}
 use Rattle.sx_closure.specs.declared.pair.Source.{Source}
 use Rattle.sx_closure.specs.declared.pair.Source.TheVariants.{Root, Cell, Page}
@@ -16,7 +17,7 @@ use Rattle.sx_closure.specs.Tallying.{Table, rank_of, count_of, one_of, one_at, 
 use Rattle.sx_closure.proofs.Numbering.{Among}
 use Rattle.sx_closure.proofs.Putting.{put_left_other, put_left_entry, put_left_dead}
 use Rattle.sx_closure.proofs.Ranks.{rank_found}
-use Rattle.sx_refs.specs.Renumbering.{is_listed, is_touched, Renumbers, HoldsAt}
+use Rattle.sx_refs.specs.Renumbering.{is_listed, is_touched, SayButNumber, Grows, Renumbers, HoldsAt}
 use Rattle.sx_refs.proofs.Renumbering.{left_by}
 
 -- ---- ranks that are listed
@@ -41,48 +42,73 @@ untouched_rank numbers ranks rank rises within none =
     ap (is_listed ranks) (rank_found numbers rank (get_or numbers rank 0) rises within refl)
     ∙ not_true (list_any (λ other. other == rank) ranks) (λ there. none (any_at ranks rank there))
 
--- a page that isn't touched by one more rank
-less_case : (ranks : List ℕ) (i : ℕ) (o : Option ℕ) → i < length ranks → is_listed (take (i + 1) ranks) o ≡ false → is_listed (take i ranks) o ≡ false
-less_case ranks i None within out = refl
-less_case ranks i (Some rank) within out =
-    not_true (list_any (λ other. other == rank) (take i ranks)) (λ there.
-    false≢true (sym out ∙ list_any_more (λ other. other == rank) ranks i 0 within
-    ∙ or_left (list_any (λ other. other == rank) (take i ranks)) (get_or ranks i 0 == rank) there))
+-- a page stays listed as the list grows
+grown_case : (some more : List ℕ) (o : Option ℕ) → Grows some more → is_listed some o ≡ true → is_listed more o ≡ true
+grown_case some more None grows there = absurd (false≢true there)
+grown_case some more (Some rank) grows there = listed more rank (grows rank (any_at some rank there))
 
-last_case : (ranks : List ℕ) (i rank : ℕ) (o : Option ℕ) → i < length ranks → is_listed (take (i + 1) ranks) o ≡ false → o ≡ Some rank → get_or ranks i 0 ≡ rank → ⊥
-last_case ranks i rank None within out some is = let never : None ≡ Some rank = some in cc
-last_case ranks i rank (Some at) within out some is =
-    let both : Some at ≡ Some rank = some in
-    let same : at ≡ rank = cc in
-    false≢true (sym out ∙ list_any_more (λ other. other == at) ranks i 0 within
-    ∙ or_right (list_any (λ other. other == at) (take i ranks)) (get_or ranks i 0 == at) (eq-eqb (get_or ranks i 0) at (is ∙ sym same)))
+pub touched_grows : (numbers some more : List ℕ) (page : ℕ) → Grows some more → is_touched numbers some page ≡ true → is_touched numbers more page ≡ true
+touched_grows numbers some more page grows there = grown_case some more (rank_of numbers page) grows there
+
+untouched_before : (numbers some more : List ℕ) (page : ℕ) → Grows some more → is_touched numbers more page ≡ false → is_touched numbers some page ≡ false
+untouched_before numbers some more page grows out =
+    not_true (is_touched numbers some page) (λ there. false≢true (sym out ∙ touched_grows numbers some more page grows there))
+
+-- one more rank is listed
+pub grows_push : (touched more : List ℕ) (rank : ℕ) → more ≡ touched ++ rank ∷ [] → Grows touched more
+grows_push touched more rank is item there = subst (λ xs. Contains xs item) (sym is) (Contains-append_left touched (rank ∷ []) item there)
+
+pub put_listed : (numbers touched more : List ℕ) (page rank : ℕ) → rank_of numbers page ≡ Some rank → more ≡ touched ++ rank ∷ [] → is_touched numbers more page ≡ true
+put_listed numbers touched more page rank ranked is =
+    ap (is_listed more) ranked ∙ listed more rank (subst (λ xs. Contains xs rank) (sym is) (Contains-push touched rank))
+
+pub place_listed : (numbers touched : List ℕ) (place rank page : ℕ) → Rises numbers → place < length touched → get_or touched place 0 ≡ rank → rank < length numbers → get_or numbers rank 0 ≡ page
+    → is_touched numbers touched page ≡ true
+place_listed numbers touched place rank page rises within is low at =
+    ap (is_listed touched) (rank_found numbers rank page rises low at)
+    ∙ listed touched rank (place, within, sym (get_or_default touched place 0 rank within) ∙ is)
+
+-- ---- one number
+
+pub say_same : (own : ℕ) (table : Table) → SayButNumber own table table
+say_same own table = record { count = λ page. refl; one = λ page. refl; number = λ page differ. refl; dead = refl }
+
+pub say_put : (own : ℕ) (left : Option ℕ) (before now : Table) → now ≡ put_left before own left → SayButNumber own before now
+say_put own left before now made =
+    subst (SayButNumber own before) (sym made) (record {
+      count = λ page. ap count_of (put_left_entry before own left page);
+      one = λ page. ap (one_of page) (put_left_entry before own left page);
+      number = λ page differ. put_left_other before own left page differ;
+      dead = put_left_dead before own left;
+    })
 
 -- ---- one number after the other
 
-pub renumbers_none : (numbers : List ℕ) (table : Table) → Renumbers numbers [] table table
-renumbers_none numbers table = record { count = λ page. refl; one = λ page. refl; number = λ page out. refl; dead = refl }
+pub renumbers_none : (numbers ranks : List ℕ) (table : Table) → Renumbers numbers ranks table table
+renumbers_none numbers ranks table = record { count = λ page. refl; one = λ page. refl; number = λ page out. refl; dead = refl }
 
-pub renumbers_over : (numbers ranks : List ℕ) (i : ℕ) (before now : Table) → i < length ranks → Renumbers numbers (take i ranks) before now → Renumbers numbers (take (i + 1) ranks) before now
-renumbers_over numbers ranks i before now within is = record {
+pub renumbers_both : (numbers some more : List ℕ) (before mid now : Table) → Grows some more → Renumbers numbers some before mid → Renumbers numbers more mid now
+    → Renumbers numbers more before now
+renumbers_both numbers some more before mid now grows first second = record {
+  count = λ page. second.count page ∙ first.count page;
+  one = λ page. second.one page ∙ first.one page;
+  number = λ page out. second.number page out ∙ first.number page (untouched_before numbers some more page grows out);
+  dead = second.dead ∙ first.dead;
+}
+
+renumbers_said : (numbers ranks : List ℕ) (own : ℕ) (before now : Table) → is_touched numbers ranks own ≡ true → SayButNumber own before now → Renumbers numbers ranks before now
+renumbers_said numbers ranks own before now there is = record {
   count = is.count;
   one = is.one;
-  number = λ page out. is.number page (less_case ranks i (rank_of numbers page) within out);
+  number = λ page out. is.number page (λ same. false≢true (sym out ∙ ap (is_touched numbers ranks) (sym same) ∙ there));
   dead = is.dead;
 }
 
-pub renumbers_more : (numbers ranks : List ℕ) (i own : ℕ) (left : Option ℕ) (before now next : Table) → Rises numbers → i < length ranks → get_or ranks i 0 < length numbers
-    → get_or numbers (get_or ranks i 0) 0 ≡ own → next ≡ put_left now own left → Renumbers numbers (take i ranks) before now → Renumbers numbers (take (i + 1) ranks) before next
-renumbers_more numbers ranks i own left before now next rises within low at made is =
-    let put : Table = put_left now own left in
-    subst (Renumbers numbers (take (i + 1) ranks) before) (sym made) (record {
-      count = λ page. ap count_of (put_left_entry now own left page) ∙ is.count page;
-      one = λ page. ap (one_of page) (put_left_entry now own left page) ∙ is.one page;
-      number = λ page out.
-          put_left_other now own left page (λ same.
-          last_case ranks i (get_or ranks i 0) (rank_of numbers page) within out (rank_found numbers (get_or ranks i 0) page rises low (at ∙ same)) refl)
-          ∙ is.number page (less_case ranks i (rank_of numbers page) within out);
-      dead = put_left_dead now own left ∙ is.dead;
-    })
+pub renumbers_step : (numbers some more : List ℕ) (own : ℕ) (before mid now : Table) → Grows some more → is_touched numbers some own ≡ true → Renumbers numbers some before mid
+    → SayButNumber own mid now → Renumbers numbers more before now
+renumbers_step numbers some more own before mid now grows there first is =
+    renumbers_both numbers some more before mid now grows first
+    (renumbers_said numbers more own mid now (touched_grows numbers some more own grows there) is)
 
 -- ---- one page after the other holds
 

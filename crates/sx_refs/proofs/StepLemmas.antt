@@ -39,7 +39,7 @@ use Rattle.sx_refs.specs.Stepping.{HasStepped}
 use Rattle.sx_refs.proofs.Views.{map_at}
 use Rattle.sx_refs.proofs.TurnLemmas.{rank_is}
 use Rattle.sx_refs.proofs.ChainLemmas.{IsPaged, is_paged, IsChained, before_overflow, named_as_overflow}
-use Rattle.sx_refs.specs.Renumbering.{is_listed, is_touched, IsRuled, HoldsAt, IsRenumbered}
+use Rattle.sx_refs.specs.Renumbering.{is_listed, is_touched, Grows, IsRuled, HoldsAt, IsRenumbered}
 use Rattle.sx_refs.proofs.Renumbering.{all_left}
 use Rattle.sx_refs.proofs.RenumberLemmas.{listed, untouched_rank, ruled_is, left_over, most_left, left_below, all_among}
 
@@ -214,14 +214,14 @@ page_case named lost numbers changed page false true d is at there = inl (inr (i
 page_case named lost numbers changed page false false true is at there = inl (inr (inr there))
 page_case named lost numbers changed page false false false is at there = inr (is, at, there)
 
-module _ (prior graph : Graph) (view : ℕ → Option (List ℕ)) (usable : ℕ) (numbers : List ℕ) (before now final : Table) (all sums : Sums) (named lost : List Pair) (changed touched : List ℕ)
+module _ (prior graph : Graph) (view : ℕ → Option (List ℕ)) (usable : ℕ) (numbers : List ℕ) (before now final : Table) (all sums : Sums) (named lost : List Pair) (changed touched ranks : List ℕ)
     (was : IsTableOf prior (usable - 4) before) (least : 480 ≤ usable) (rises : Rises numbers) (shown_before shown : ℕ → Bool)
     (held_before : (page : ℕ) → is_held prior.held page ≡ shown_before page) (held_now : (page : ℕ) → is_held graph.held page ≡ shown page)
     (same : (page : ℕ) → has_rank numbers changed page ≡ false → shown page ≡ shown_before page)
     (unranked_before : (page : ℕ) → rank_of numbers page ≡ None → shown_before page ≡ false) (unranked : (page : ℕ) → rank_of numbers page ≡ None → shown page ≡ false)
     (known : AreReferencesOf prior all) (is : AreReferencesOf graph sums) (kept : AreKeptBut named lost all sums)
     (renews : Renews shown (λ page. (has_page named page ≡ true) ⊎ ((has_page lost page ≡ true) ⊎ (has_rank numbers changed page ≡ true))) sums numbers before now [] touched)
-    (renumbered : IsRenumbered view usable numbers touched now final)
+    (grows : Grows touched ranks) (renumbered : IsRenumbered view usable numbers ranks now final)
     (held : sums.held ≡ numbers) (dead : now.dead ≡ sums.dead + sum_by (unsaid_count shown sums) numbers)
     (paged : IsPaged prior) (pages : IsPaged graph) (targets : (pair : Pair) → graph.targets pair ≡ if_held (view pair.page) pair usable) where
   stays : (page : ℕ) → has_page named page ≡ false → has_page lost page ≡ false → has_rank numbers changed page ≡ false → Agrees shown before sums page
@@ -249,19 +249,19 @@ module _ (prior graph : Graph) (view : ℕ → Option (List ℕ)) (usable : ℕ)
   one_final page = renumbered.renumbers.one page ∙ (agrees page).one ∙ said_ones graph shown sums held_now is page
 
   -- a page that isn't touched has the reference and the number that it had
-  untouched_case : (page : ℕ) (o : Option ℕ) → rank_of numbers page ≡ o → is_listed touched o ≡ false → one_reference graph page ≡ one_reference prior page
+  untouched_case : (page : ℕ) (o : Option ℕ) → rank_of numbers page ≡ o → is_listed ranks o ≡ false → one_reference graph page ≡ one_reference prior page
   untouched_case page None ranked out =
       sym (said_ones graph shown sums held_now is page) ∙ ap (λ b. cond b (one_in page (sum_of sums page)) None) (unranked page ranked)
       ∙ sym (ap (λ b. cond b (one_in page (sum_of all page)) None) (unranked_before page ranked)) ∙ said_ones prior shown_before all held_before known page
   untouched_case page (Some rank) ranked out =
-      let entry = renews.notes rank (rank_within numbers page rank ranked) (λ there. false≢true (sym out ∙ listed touched rank there)) in
+      let entry = renews.notes rank (rank_within numbers page rank ranked) (λ there. false≢true (sym out ∙ listed ranks rank (grows rank there))) in
       let at : get_or numbers rank 0 ≡ page = rank_is numbers page rank ranked in
       sym (one_final page) ∙ renumbered.renumbers.one page ∙ subst (λ p. one_at now p ≡ one_at before p) at entry.one ∙ one_before page
 
-  same_one : (page : ℕ) → is_touched numbers touched page ≡ false → one_reference graph page ≡ one_reference prior page
+  same_one : (page : ℕ) → is_touched numbers ranks page ≡ false → one_reference graph page ≡ one_reference prior page
   same_one page out = untouched_case page (rank_of numbers page) refl out
 
-  same_left : (page : ℕ) → is_touched numbers touched page ≡ false → left_at final page ≡ left_at before page
+  same_left : (page : ℕ) → is_touched numbers ranks page ≡ false → left_at final page ≡ left_at before page
   same_left page out =
       left_case before final page (one_final page ∙ same_one page out ∙ sym (one_before page))
       (renumbered.renumbers.number page out ∙ renews.numbers_stay page)
@@ -271,7 +271,7 @@ module _ (prior graph : Graph) (view : ℕ → Option (List ℕ)) (usable : ℕ)
 
   lefts : (page : ℕ) → IsLeft (one_reference graph) (usable - 4) page (left_at final page)
   lefts page =
-      all_left (one_reference graph) (one_reference prior) (left_at final) (left_at before) (is_touched numbers touched) (usable - 4) (most_left final) (omega (arith, least))
+      all_left (one_reference graph) (one_reference prior) (left_at final) (left_at before) (is_touched numbers ranks) (usable - 4) (most_left final) (omega (arith, least))
       (λ p left some. ap is_overflow (sym (one_final p)) ∙ left_over final p left some)
       (left_below final) (before_overflow_of graph pages) (before_overflow_of prior paged) was.lefts same_one same_left
       (λ p there over. (renumbered.holds p there).ruled (over_final p over) ∙ ruled_is final (usable - 4) p (one_reference graph p) (one_final p))
@@ -289,11 +289,11 @@ module _ (prior graph : Graph) (view : ℕ → Option (List ℕ)) (usable : ℕ)
     lefts = lefts;
   }
 
-  pub say_other : SayOther numbers before final (Some touched)
+  pub say_other : SayOther numbers before final (Some ranks)
   say_other rank within none =
       let page = get_or numbers rank 0 in
-      let entry = renews.notes rank within none in
-      let out = untouched_rank numbers touched rank rises within none in
+      let entry = renews.notes rank within (λ there. none (grows rank there)) in
+      let out = untouched_rank numbers ranks rank rises within none in
       record {
         count = renumbered.renumbers.count page ∙ entry.count;
         one = renumbered.renumbers.one page ∙ entry.one;
@@ -302,7 +302,7 @@ module _ (prior graph : Graph) (view : ℕ → Option (List ℕ)) (usable : ℕ)
 
 -- the step is whole
 module _ (numbers : List ℕ) (views : List (Option (List ℕ))) (size : ℕ) (layout : Layout) (roots : List ℤ) (before now final : Table) (all sums : Sums) (trail : List Target)
-    (next : ℕ → Option (List ℕ)) (named lost : List Pair) (changed touched missing counted : List ℕ) (kept : IsKept numbers views layout.usable before all trail missing) (covers : Covers numbers next)
+    (next : ℕ → Option (List ℕ)) (named lost : List Pair) (changed touched ranks missing counted : List ℕ) (kept : IsKept numbers views layout.usable before all trail missing) (covers : Covers numbers next)
     (within : (number : ℕ) → size < number → next number ≡ None) (from_one : next 0 ≡ None)
     (stand : (rank : ℕ) → rank < length numbers → (Contains changed rank → ⊥) → get_or views rank None ≡ next (get_or numbers rank 0))
     (good : IsGraph (graph_of size next layout roots)) (wide : IsGraph (widened numbers (graph_of size next layout roots)))
@@ -310,7 +310,7 @@ module _ (numbers : List ℕ) (views : List (Option (List ℕ))) (size : ℕ) (l
     (renews : Renews (λ number. is_some (next number)) (λ page. (has_page named page ≡ true) ⊎ ((has_page lost page ≡ true) ⊎ (has_rank numbers changed page ≡ true))) sums numbers before now [] touched)
     (recounts : Recounts (λ number. is_some (next number)) (λ page. (has_page named page ≡ true) ⊎ ((has_page lost page ≡ true) ⊎ (has_rank numbers changed page ≡ true))) sums numbers missing counted)
     (total : now.dead ≡ sums.dead + sum counted) (rises : Rises numbers) (least : 480 ≤ layout.usable)
-    (renumbered : IsRenumbered next layout.usable numbers touched now final) where
+    (grows : Grows touched ranks) (renumbered : IsRenumbered next layout.usable numbers ranks now final) where
   same_shown : (page : ℕ) → has_rank numbers changed page ≡ false → is_some (next page) ≡ is_some (kept.view page)
   same_shown page out = ap is_some (same_view numbers changed views kept.view next page kept.views_are kept.covered covers stand out)
 
@@ -340,7 +340,7 @@ module _ (numbers : List ℕ) (views : List (Option (List ℕ))) (size : ℕ) (l
   unranked_next : (view : ℕ → Option (List ℕ)) → Covers numbers view → (page : ℕ) → rank_of numbers page ≡ None → is_some (view page) ≡ false
   unranked_next view covered page ranked = ap is_some (sym (by_case numbers view page None covered ranked))
 
-  pub has_stepped : HasStepped (graph_of size next layout roots) (layout.usable - 4) numbers before final sums touched
+  pub has_stepped : HasStepped (graph_of size next layout roots) (layout.usable - 4) numbers before final sums ranks
   unfolding graph_of
   has_stepped =
       let prior = graph_of kept.size kept.view kept.layout kept.roots in
@@ -356,9 +356,9 @@ module _ (numbers : List ℕ) (views : List (Option (List ℕ))) (size : ℕ) (l
       record {
         good = good;
         wide = wide;
-        table = table_is prior graph next layout.usable numbers before now final all sums named lost changed touched kept.table_is least rises shown_before shown held_before held_now same_shown
-            (unranked_next kept.view kept.covered) (unranked_next next covers) known is but renews renumbered followed.held_is dead paged pages (λ pair. refl);
+        table = table_is prior graph next layout.usable numbers before now final all sums named lost changed touched ranks kept.table_is least rises shown_before shown held_before held_now same_shown
+            (unranked_next kept.view kept.covered) (unranked_next next covers) known is but renews grows renumbered followed.held_is dead paged pages (λ pair. refl);
         followed = followed;
-        others = say_other prior graph next layout.usable numbers before now final all sums named lost changed touched kept.table_is least rises shown_before shown held_before held_now same_shown
-            (unranked_next kept.view kept.covered) (unranked_next next covers) known is but renews renumbered followed.held_is dead paged pages (λ pair. refl);
+        others = say_other prior graph next layout.usable numbers before now final all sums named lost changed touched ranks kept.table_is least rises shown_before shown held_before held_now same_shown
+            (unranked_next kept.view kept.covered) (unranked_next next covers) known is but renews grows renumbered followed.held_is dead paged pages (λ pair. refl);
       }

@@ -1,7 +1,7 @@
 -- How many bytes of a payload are still to come at each overflow page, numbered anew where references changed ("Cell Payload
 -- Overflow Pages").
 use Rattle.std.specs.Prelude.{◌≡◌, ℕ, ◌-◌, ◌==◌, Bool, true, false, List, Option, Some, None}
-use Rattle.std.specs.List.{list_any, All}
+use Rattle.std.specs.List.{Contains, list_any, All}
 use Rattle.sx_base.specs.declared.role.Role.TheVariants.{Overflow}
 use Rattle.sx_closure.specs.Chains.{page_before, is_overflow}
 use Rattle.sx_closure.specs.Tallying.{Table, rank_of, count_at, one_at, number_at, left_at, ruled}
@@ -15,6 +15,17 @@ is_listed ranks (Some rank) = list_any (λ other. other == rank) ranks
 -- the page has one of these ranks
 abbrev pub is_touched : List ℕ → List ℕ → ℕ → Bool
 is_touched numbers ranks page = is_listed ranks (rank_of numbers page)
+
+-- two tables say the same but for the number of one page
+pub record SayButNumber (own : ℕ) (before now : Table) : Type 0 where
+  pub count : (page : ℕ) → count_at now page ≡ count_at before page
+  pub one : (page : ℕ) → one_at now page ≡ one_at before page
+  pub number : (page : ℕ) → (own ≡ page → ⊥) → number_at now page ≡ number_at before page
+  pub dead : now.dead ≡ before.dead
+
+-- a list has what another has, and maybe more
+abbrev pub Grows : List ℕ → List ℕ → Type 0
+Grows some more = (item : ℕ) → Contains some item → Contains more item
 
 -- two tables say the same but for the numbers of the pages of these ranks
 pub record Renumbers (numbers ranks : List ℕ) (before now : Table) : Type 0 where

@@ -103,11 +103,11 @@ pub(crate) fn follow_step<'a, P: Pages<'a>>(
         None => return Ok(None),
     };
     let renewed = renew_table(alloc, table, pages, &followed, numbers, changed, dead)?;
-    let touched = match renewed {
+    let mut touched = match renewed {
         Some(touched) => touched,
         None => return Ok(None),
     };
-    if !renumber(alloc, table, pages, numbers, &touched, layout.usable)? {
+    if !renumber(alloc, table, pages, numbers, &mut touched, layout.usable)? {
         return Ok(None);
     }
     Ok(Some(Step {

@@ -242,6 +242,7 @@ fn a_walk_numbers_the_pages_of_another_chain(rt: HostRuntime) -> Result<(), Fail
     let (fifth, fourth) = (linked(&rt, 5), linked(&rt, 4));
     let before: [&[u8]; 5] = [&head, &some, &leaf, &fifth, &end];
     let after: [&[u8]; 5] = [&head, &other, &leaf, &end, &fourth];
-    assert_eq!(rt; walked(&rt, alloc, &before, &after)?, Some(2));
+    // the page behind the first is listed twice
+    assert_eq!(rt; walked(&rt, alloc, &before, &after)?, Some(3));
     Ok(())
 }

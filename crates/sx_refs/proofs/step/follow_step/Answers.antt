@@ -1,7 +1,6 @@
-use Rattle.std.proofs.Common.{◌<◌, ◌^◌, ◌∙◌, refl, ℕ, List, None, map, length, get_or, option_copied, subst, arith}
+use Rattle.std.proofs.Common.{◌<◌, ◌^◌, ◌∙◌, refl, ℕ, List, None, map, length, get_or, option_copied, arith}
 use Rattle.sx_base.specs.Held.{held_pages}
 use Rattle.sx_refs.specs.Pages.{graph_of}
-use Rattle.sx_refs.specs.Renumbering.{IsRenumbered}
 use Rattle.sx_refs.specs.Turning.{HasUsable}
 use Rattle.sx_refs.proofs.Graphs.{is_graph, within_small}
 use Rattle.sx_refs.proofs.Shown.{wide_graph, wide_sourced}
@@ -51,14 +50,13 @@ returns-clause-stepped g c =
     (within_small c.args.layout.now.usable (g.P.PageViews.page_size c.args.pages.now) c.requires.within c.requires.small) in
     let wide = wide_graph c.args.numbers.now (graph_of size next c.args.layout.now c.args.roots.now) good c.requires.rises c.requires.kept.wide.few in
     has_stepped c.args.numbers.now (map (option_copied {T = List ℕ}) c.args.views.now.items) size c.args.layout.now c.args.roots.now c.args.table.now c.renew_table.new.table c.renumber.new.table c.args.sums
-    c.in-Some.followed.sums c.args.old.now next c.in-Some.followed.named.items c.in-Some.followed.lost.items c.args.changed.now c.in-Some-renewed.touched.items c.args.missing.now c.count_dead.new.missing
+    c.in-Some.followed.sums c.args.old.now next c.in-Some.followed.named.items c.in-Some.followed.lost.items c.args.changed.now c.in-Some-renewed.touched.items c.renumber.new.touched.items c.args.missing.now c.count_dead.new.missing
     c.requires.kept c.requires.covered
     (λ number past. c.size-size.ensures.within number (omega (arith, past, c.size-size.ensures.size))) c.size-size.ensures.from_one c.requires.stand good wide
     (rw c.in-Some.is at c.in_ok-followed.ensures.followed) (rw c.in-Some.is at c.in_ok-followed.ensures.kept)
     (rw c.in-Some-renewed.is at c.in_ok-renewed.ensures.renewed) (rw c.in-Some-count_dead.is at c.count_dead.ensures.recounted)
     ((rw c.in-Some-renewed.is at c.in_ok-renewed.ensures.dead) ∙ (rw c.in-Some-count_dead.is at c.count_dead.ensures.dead)) c.requires.rises c.requires.least
-    (subst (λ ranks. IsRenumbered next c.args.layout.now.usable c.args.numbers.now ranks c.renew_table.new.table c.renumber.new.table) c.deref.ensures.value
-    (c.in_ok-renumber.ensures c.if-not-branch.false))
+    c.in_ok-renumber.ensures.grows (c.in_ok-renumber.ensures.fit c.if-not-branch.false)
 
 pub returns-clause-missing : goal.returns-clause-missing
 returns-clause-missing g c =
@@ -69,11 +67,10 @@ returns-clause-missing g c =
     (within_small c.args.layout.now.usable (g.P.PageViews.page_size c.args.pages.now) c.requires.within c.requires.small) in
     let wide = wide_graph c.args.numbers.now (graph_of size next c.args.layout.now c.args.roots.now) good c.requires.rises c.requires.kept.wide.few in
     missing_is c.args.numbers.now (map (option_copied {T = List ℕ}) c.args.views.now.items) size c.args.layout.now c.args.roots.now c.args.table.now c.renew_table.new.table c.renumber.new.table c.args.sums
-    c.in-Some.followed.sums c.args.old.now next c.in-Some.followed.named.items c.in-Some.followed.lost.items c.args.changed.now c.in-Some-renewed.touched.items c.args.missing.now c.count_dead.new.missing
+    c.in-Some.followed.sums c.args.old.now next c.in-Some.followed.named.items c.in-Some.followed.lost.items c.args.changed.now c.in-Some-renewed.touched.items c.renumber.new.touched.items c.args.missing.now c.count_dead.new.missing
     c.requires.kept c.requires.covered
     (λ number past. c.size-size.ensures.within number (omega (arith, past, c.size-size.ensures.size))) c.size-size.ensures.from_one c.requires.stand good wide
     (rw c.in-Some.is at c.in_ok-followed.ensures.followed) (rw c.in-Some.is at c.in_ok-followed.ensures.kept)
     (rw c.in-Some-renewed.is at c.in_ok-renewed.ensures.renewed) (rw c.in-Some-count_dead.is at c.count_dead.ensures.recounted)
     ((rw c.in-Some-renewed.is at c.in_ok-renewed.ensures.dead) ∙ (rw c.in-Some-count_dead.is at c.count_dead.ensures.dead)) c.requires.rises c.requires.least
-    (subst (λ ranks. IsRenumbered next c.args.layout.now.usable c.args.numbers.now ranks c.renew_table.new.table c.renumber.new.table) c.deref.ensures.value
-    (c.in_ok-renumber.ensures c.if-not-branch.false))
+    c.in_ok-renumber.ensures.grows (c.in_ok-renumber.ensures.fit c.if-not-branch.false)
