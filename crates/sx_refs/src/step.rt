@@ -34,11 +34,11 @@ pub(crate) struct Step {
 }
 
 /// Follows the table and the sums to a moment with the same usable bytes, and takes the views that changed anew. `None` where
-/// that can't be done: where a way up can't be shown, or the pages of a chain aren't met in its order. Then the table is of no
+/// that can't be done: where a way up can't be shown, or a chain that changed goes on past its payload. Then the table is of no
 /// use.
 ///
-/// The cost is that of reading both views of each changed page and a few look-ups for each target that comes or goes, and some
-/// more where ways up are long. It answers `AllocError` where memory runs out.
+/// The cost is that of reading both views of each changed page and a few look-ups for each target that comes or goes and for
+/// each page behind it in a chain, and some more where ways up are long. It answers `AllocError` where memory runs out.
 pub(crate) fn follow_step<'a, P: Pages<'a>>(
     alloc: Global,
     pages: &P,

@@ -103,9 +103,9 @@ impl<'a> RefWalk<'a> {
     /// that it had at the moment before.
     ///
     /// Where the page size and the usable bytes are those of the moment before, each page that lost a reference still has a way
-    /// of single ones from a root, and the pages of each chain that changed are met in its order, with bytes still to come at
-    /// each but the last, the table is followed, also where pages come into view or go out of it: the cost is that of reading
-    /// the changed pages twice, and of a few look-ups for each reference that comes or goes. Else it is that of
+    /// of single ones from a root, and no chain that changed goes on past its payload, the table is followed, also where pages
+    /// come into view or go out of it: the cost is that of reading the changed pages twice, and of a few look-ups for each
+    /// reference that comes or goes and for each page behind it in a chain. Else it is that of
     /// [`references`](crate::references) and a look at each changed page; and twice that of the first where the page size and
     /// the usable bytes are the same, as at the first such step behind another: then the references are counted a second time,
     /// so that the next step can follow them. But as long as there is nothing to follow, nothing is counted where the size, the
