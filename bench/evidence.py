@@ -276,3 +276,29 @@ def freelist(rows, commits, vacuum=False):
             made.execute("COMMIT")
 
     return statements
+
+
+def chains(rows, commits, changed):
+    """A database of rows whose payload goes on over some five overflow pages of 1024 bytes, and then a log of so many commits
+    that each write some rows anew, so that their chains are other pages or the same in another order."""
+
+    def body(number):
+        return bytes((number * j) % 251 for j in range(4000 + number * 7919 % 2000))
+
+    def statements(made):
+        made.execute("PRAGMA synchronous = OFF")
+        made.execute("PRAGMA journal_mode = OFF")
+        made.execute("BEGIN")
+        made.execute("CREATE TABLE file(id INTEGER PRIMARY KEY, body BLOB)")
+        made.executemany("INSERT INTO file(id, body) VALUES (?, ?)", ((row, body(row)) for row in range(1, rows + 1)))
+        made.execute("COMMIT")
+        made.execute("PRAGMA journal_mode = WAL")
+        made.execute("PRAGMA wal_autocheckpoint = 0")
+        for commit in range(commits):
+            made.execute("BEGIN")
+            for j in range(changed):
+                row = (commit * changed + j) * 7919 % rows + 1
+                made.execute("UPDATE file SET body = ? WHERE id = ?", (body(row + commit), row))
+            made.execute("COMMIT")
+
+    return statements
