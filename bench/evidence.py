@@ -215,6 +215,12 @@ def one_row_commits(count):
     return statements
 
 
+def keep_log(made):
+    """Lets what is committed from here on stand in a log that is never checkpointed."""
+    made.execute("PRAGMA journal_mode = WAL")
+    made.execute("PRAGMA wal_autocheckpoint = 0")
+
+
 def busy(rows, commits, changed, tables=("message", "person", "call", "place")):
     """A database of about 250 bytes a row in these tables, the first with an index, and then a log of so many commits
     that each change some rows."""
@@ -234,8 +240,7 @@ def busy(rows, commits, changed, tables=("message", "person", "call", "place")):
             )
         made.execute("CREATE INDEX message_name ON message(name)")
         made.execute("COMMIT")
-        made.execute("PRAGMA journal_mode = WAL")
-        made.execute("PRAGMA wal_autocheckpoint = 0")
+        keep_log(made)
         for commit in range(commits):
             made.execute("BEGIN")
             for j in range(changed):
@@ -263,8 +268,7 @@ def freelist(rows, commits, vacuum=False):
         made.execute("CREATE TABLE entry(id INTEGER PRIMARY KEY, body BLOB)")
         made.executemany("INSERT INTO entry(id, body) VALUES (?, ?)", ((i, bytes((i * j) % 251 for j in range(350))) for i in range(1, rows + 1)))
         made.execute("COMMIT")
-        made.execute("PRAGMA journal_mode = WAL")
-        made.execute("PRAGMA wal_autocheckpoint = 0")
+        keep_log(made)
         for commit in range(commits):
             first = commit // 2 * 7919 % (rows - 8) + 1
             made.execute("BEGIN")
@@ -292,8 +296,7 @@ def chains(rows, commits, changed):
         made.execute("CREATE TABLE file(id INTEGER PRIMARY KEY, body BLOB)")
         made.executemany("INSERT INTO file(id, body) VALUES (?, ?)", ((row, body(row)) for row in range(1, rows + 1)))
         made.execute("COMMIT")
-        made.execute("PRAGMA journal_mode = WAL")
-        made.execute("PRAGMA wal_autocheckpoint = 0")
+        keep_log(made)
         for commit in range(commits):
             made.execute("BEGIN")
             for j in range(changed):
