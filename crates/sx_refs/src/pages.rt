@@ -3,8 +3,6 @@ ghost use Rattle.std.specs.Prelude.{◌≡◌, ℕ, false, ◌-◌, ◌≤◌, �
 ghost use Rattle.sx_base.specs.Held.{held_pages};
 ghost use Rattle.sx_closure.specs.Graph.{IsGraph};
 ghost use Rattle.sx_closure.specs.Tallying.{IsTableOf};
-ghost use Rattle.sx_follow.specs.Climbing.{IsSourced};
-ghost use Rattle.sx_follow.specs.Widened.{widened};
 ghost use Rattle.sx_closure.specs.declared.pair.Source.TheVariants.{Root};
 ghost use Rattle.sx_refs.specs.Pages.{root_page, root_targets, roots_targets, is_map_in, maps_targets, all_roots, if_held, graph_of};
 
@@ -13,7 +11,6 @@ use std::alloc::{AllocError, Global};
 use std::marker::PhantomData;
 use sx_base::{Layout, PageViews, Pages, Role};
 use sx_closure::{Links, Pair, Receiver, RefTable, Source, Tally, Target, close};
-use sx_follow::Names;
 
 /// Counts what refers to each page of a moment, from page 1, the freelist, the roots of the schema and the pointer-map
 /// pages on.
@@ -99,39 +96,8 @@ impl<'p, 'a, P: Pages<'a>> Links for PageLinks<'p, 'a, P> {
     ghost sound = { λ it. it.graph };
 }
 
-/// The pages of a moment over more numbers than are held, as what names pages: one without a view names nothing.
-#[derive(Drop)]
-pub(crate) struct WideLinks<'p, 'a, P: PageViews> {
-    pub pages: &'p P,
-    pub numbers: &'p [u32],
-    pub layout: Layout,
-    pub roots: &'p [i64],
-    pub views: PhantomData<&'a [u8]>,
-    ghost least: { 480 ≤ layout.usable },
-    ghost within: { layout.usable ≤ P.page_size pages.now },
-    ghost small: { P.page_size pages.now ≤ 65536 },
-    ghost graph: { IsGraph (widened numbers.now (graph_of (P.pages pages.now) (P.view pages.now) layout roots.now)) },
-    ghost sourced: { IsSourced (widened numbers.now (graph_of (P.pages pages.now) (P.view pages.now) layout roots.now)) },
-}
-
-impl<'p, 'a, P: Pages<'a>> Names for WideLinks<'p, 'a, P> {
-    ghost use Rattle.sx_follow.specs.Widened.{widened};
-    ghost use Rattle.sx_refs.specs.Pages.{graph_of};
-
-    ghost graph = { λ it. widened it.numbers.now (graph_of (P.pages it.pages.now) (P.view it.pages.now) it.layout it.roots.now) };
-
-    #[tactic(auto, unfolding(crate::specs::Pages::graph_of))]
-    fn give<R: Receiver>(&self, pair: Pair, receiver: &mut R) -> Result<(), AllocError> {
-        give_named(self.pages, self.layout.usable, pair, receiver)
-    }
-
-    ghost sound = { λ it. it.graph };
-
-    ghost sourced = { λ it. it.sourced };
-}
-
 /// Gives what a pair names, if its page is held.
-fn give_named<'a, P: Pages<'a>, R: Receiver>(
+pub fn give_named<'a, P: Pages<'a>, R: Receiver>(
     pages: &P,
     usable: u32,
     pair: Pair,
@@ -151,9 +117,9 @@ fn give_named<'a, P: Pages<'a>, R: Receiver>(
     }
 }
 
-/// Gives the root targets.
+/// Gives the root targets: page 1, the first freelist trunk page, the roots of the schema, the held pointer-map pages.
 #[tactic(auto, unfolding(crate::specs::Pages::all_roots))]
-pub(crate) fn give_roots<'a, P: Pages<'a>, R: Receiver>(
+pub fn give_roots<'a, P: Pages<'a>, R: Receiver>(
     pages: &P,
     layout: &Layout,
     roots: &[i64],

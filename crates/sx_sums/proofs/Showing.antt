@@ -16,7 +16,7 @@ use Rattle.sx_base.specs.declared.label.Label.TheVariants.{LockPage}
 use Rattle.sx_base.specs.declared.layout.Layout.{Layout}
 use Rattle.sx_base.proofs.HeldPages.{has_view, held_is_there, held_place}
 use Rattle.sx_closure.specs.Graph.{Graph, Rises}
-use Rattle.sx_refs.specs.Walks.{Covers}
+use Rattle.sx_refs.specs.Covering.{Covers}
 use Rattle.sx_refs.proofs.Graphs.{held_rise}
 use Rattle.sx_prov.specs.declared.map.Totals.{Totals}
 use Rattle.sx_prov.specs.Labels.{view_label, label_of, labels_of}

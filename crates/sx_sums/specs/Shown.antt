@@ -5,7 +5,7 @@ use Rattle.sx_base.specs.Maps.{lock_page_of}
 use Rattle.sx_base.specs.declared.label.Label.{Label}
 use Rattle.sx_base.specs.declared.layout.Layout.{Layout}
 use Rattle.sx_closure.specs.Graph.{Graph, Rises}
-use Rattle.sx_refs.specs.Walks.{Covers}
+use Rattle.sx_refs.specs.Covering.{Covers}
 use Rattle.sx_prov.specs.declared.map.Totals.{Totals}
 use Rattle.sx_prov.specs.Labels.{labels_of}
 use Rattle.sx_prov.specs.Sums.{bytes_of}

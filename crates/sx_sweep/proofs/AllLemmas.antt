@@ -27,7 +27,7 @@ use Rattle.sx_prov.specs.Keys.{key_of, keyed_labels, table_labels}
 use Rattle.sx_prov.specs.Labels.{labels_of}
 use Rattle.sx_prov.proofs.Standings.{labels_are}
 use Rattle.sx_refs.specs.Pages.{graph_of}
-use Rattle.sx_refs.specs.Walks.{Walk}
+use Rattle.sx_walk.specs.Walks.{Walk}
 use Rattle.sx_schema.specs.Entries.{schema_of, roots_of}
 use Rattle.sx_sums.specs.Entries.{entry_at}
 use Rattle.sx_sums.specs.Shown.{AreTotals, IsShown, AreShown, AreMoment}

@@ -20,9 +20,10 @@ use Rattle.sx_moment.proofs.Numbered.{among_contains, among_at}
 use Rattle.sx_owned.specs.Owned.{Owned, owned_at, block_at}
 use Rattle.sx_prov.specs.Keys.{key_of, keyed_labels, standing_by}
 use Rattle.sx_prov.specs.declared.key.PageKey.{PageKey}
-use Rattle.sx_refs.specs.Walks.{Walk, Covers, StandBut, SaySame, SayOther, StandsAt}
+use Rattle.sx_refs.specs.Covering.{Covers}
+use Rattle.sx_walk.specs.Walks.{Walk, StandBut, SaySame, SayOther, StandsAt}
 use Rattle.sx_refs.specs.Pages.{graph_of}
-use Rattle.sx_refs.proofs.Views.{map_at}
+use Rattle.sx_walk.proofs.Views.{map_at}
 use Rattle.sx_sums.specs.Entries.{entry_at}
 use Rattle.sx_sums.specs.declared.entry.Entry.{Entry}
 use Rattle.sx_sums.specs.declared.entry.Labelled.{Labelled}

@@ -11,7 +11,7 @@ use Rattle.sx_base.specs.declared.moment.Moment.{Moment}
 use Rattle.sx_node.specs.Nodes.{node_of}
 use Rattle.sx_closure.specs.Tallying.{Table, IsTableOf}
 use Rattle.sx_refs.specs.Pages.{graph_of}
-use Rattle.sx_refs.specs.Walks.{Walk}
+use Rattle.sx_walk.specs.Walks.{Walk}
 use Rattle.sx_images.specs.declared.image.Image.{Image}
 use Rattle.sx_images.specs.Images.{Table as ImageTable, images_of}
 use Rattle.sx_moment.specs.Gathered.{Gathered, size_at}

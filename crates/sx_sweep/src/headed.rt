@@ -11,7 +11,7 @@ use std::alloc::{AllocError, Global};
 use sx_base::Layout;
 use sx_images::ImageTable;
 use sx_moment::Sweep;
-use sx_refs::RefWalk;
+use sx_walk::RefWalk;
 
 /// Goes over the pages of a moment: all of them, where it is the first with a header.
 pub fn go_over<'a>(

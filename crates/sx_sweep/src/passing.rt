@@ -17,9 +17,9 @@ use std::alloc::{AllocError, Global};
 use sx_base::{Layout, Pages};
 use sx_images::ImageTable;
 use sx_moment::Sweep;
-use sx_refs::RefWalk;
 use sx_schema::schema;
 use sx_sums::moment_totals;
+use sx_walk::RefWalk;
 
 /// What is known after some moments: of their pages, how many bytes were usable at the last one with a header, and the totals
 /// of each.

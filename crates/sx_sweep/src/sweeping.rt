@@ -52,7 +52,7 @@ pub fn sweep(
 /// gone over whose views changed or to which something else refers: a page whose view and key are those with which it was
 /// labelled last costs a look. Over all pages it goes at the first such moment, where it isn't known to which pages something
 /// else refers, and where the usable bytes are others than before. It takes 24 bytes a page for the walk, 64 for what each
-/// page was labelled with, what [`RefWalk`](sx_refs::RefWalk) takes, and 40 for each moment. It answers `AllocError` where
+/// page was labelled with, what [`RefWalk`](sx_walk::RefWalk) takes, and 40 for each moment. It answers `AllocError` where
 /// memory runs out, and nothing else.
 pub fn sweep_all(alloc: Global, case: &Case<'_>, images: &ImageTable) -> Result<Swept, AllocError>
     requires { images.now.page_size ≡ case.now.header.page_size }

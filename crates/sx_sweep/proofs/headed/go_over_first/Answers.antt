@@ -1,7 +1,7 @@
 use Rattle.std.proofs.Common.{◌<◌, ◌≤◌, refl, sym, subst, ◌∙◌, arith}
 use Rattle.sx_closure.specs.Graph.{Rises}
 use Rattle.sx_moment.specs.Views.{view_of}
-use Rattle.sx_refs.specs.Walks.{Covers}
+use Rattle.sx_refs.specs.Covering.{Covers}
 use Rattle.sx_sweep.proofs.MomentLemmas.{rises, covered, goes_over}
 use Rattle.sx_sweep.proofs.headed.go_over_first.Goals as goal
 

@@ -2,7 +2,8 @@ use Rattle.std.proofs.Common.{◌<◌, ◌≤◌, length, refl, sym, subst, ◌�
 use Rattle.std.proofs.lemmas.Bool.{eqb-true}
 use Rattle.std.specs.List.{All}
 use Rattle.sx_moment.specs.Views.{view_of}
-use Rattle.sx_refs.specs.Walks.{Covers, StandBut}
+use Rattle.sx_refs.specs.Covering.{Covers}
+use Rattle.sx_walk.specs.Walks.{StandBut}
 use Rattle.sx_sweep.proofs.MomentLemmas.{covered, all_ranks, stands, still_but, goes_over}
 use Rattle.sx_sweep.proofs.headed.go_over_next.Goals as goal
 

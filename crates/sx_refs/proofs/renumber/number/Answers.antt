@@ -1,5 +1,0 @@
-use Rattle.sx_refs.proofs.RenumberLemmas.{say_put}
-use Rattle.sx_refs.proofs.renumber.number.Goals as goal
-
-pub returns : goal.returns
-returns c = say_put c.args.no c.ruled-left.result c.args.table.now c.put_left.new.self c.put_left.ensures.value

@@ -1,0 +1,14 @@
+pub mod Views
+pub mod FivePages
+pub mod Sourcing
+pub mod Exchanging
+pub mod TurnLemmas
+pub mod RenewLemmas
+pub mod MissingLemmas
+pub mod ChainLemmas
+pub mod Renumbering
+pub mod RenumberLemmas
+pub mod Shown
+pub mod StepLemmas
+pub mod Steadying
+pub mod SameGraph
