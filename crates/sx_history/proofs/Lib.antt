@@ -1,1 +1,4 @@
 pub mod Gathered
+pub mod SameRows
+pub mod Trees
+pub mod Says

@@ -1,2 +1,4 @@
 pub mod History
 pub mod Given
+pub mod Leaves
+pub mod Closed
