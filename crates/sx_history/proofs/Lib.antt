@@ -2,3 +2,6 @@ pub mod Gathered
 pub mod SameRows
 pub mod Trees
 pub mod Says
+pub mod Marking
+pub mod Leafing
+pub mod Keeping

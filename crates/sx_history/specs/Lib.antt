@@ -2,3 +2,5 @@ pub mod History
 pub mod Given
 pub mod Leaves
 pub mod Closed
+pub mod Marks
+pub mod Standing

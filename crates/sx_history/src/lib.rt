@@ -3,7 +3,10 @@
 
 mod found;
 mod gathering;
+mod leaf;
 mod listing;
+mod marks;
+mod steady;
 
 pub use found::Found;
 pub use gathering::history;
