@@ -1,5 +1,5 @@
 -- What is kept of a moment stands for the next, where the pages that changed are steady.
-use Rattle.std.proofs.Common.{◌≡◌, ℕ, ℤ, zero, suc, ◌+◌, ◌-◌, ◌<◌, ◌≤◌, ◌⊎◌, inl, inr, Bool, true, false, List, [], ◌∷◌, ◌++◌, length, map, get_or, Option, Some, None, is_some, Result, Ok, Err, refl, sym, ap, subst, ◌∙◌, arith, Contains}
+use Rattle.std.proofs.Common.{◌≡◌, ℕ, ℤ, zero, suc, ◌+◌, ◌-◌, ◌<◌, ◌≤◌, ◌⊎◌, inl, inr, Bool, true, false, List, [], ◌∷◌, ◌++◌, length, map, replicate, get_or, Option, Some, None, is_some, Result, Ok, Err, refl, sym, ap, subst, ◌∙◌, arith, Contains}
 use Rattle.std.specs.Prelude.{IsTrue, IsSome}
 use Rattle.std.specs.List.{All, flat_map, range_with_len}
 use Rattle.std.proofs.lemmas.Bool.{cases_eq, cases_lt}
@@ -18,8 +18,8 @@ use Rattle.sx_history.specs.Given.{faults_by, items_by}
 use Rattle.sx_history.specs.History.{faults_of, found_of}
 use Rattle.sx_history.specs.Leaves.{IsLeaf, IsLocal, LeafSays, SaySame, StaysLeaf}
 use Rattle.sx_history.specs.Closed.{AllNamed, IsClosed, IsLinked, IsNamed, IsSteady}
-use Rattle.sx_history.specs.Marks.{AreLinkedBut, AreMarked, AreNamedBut, IsNoted, IsWhole, is_marked, view_at}
-use Rattle.sx_history.specs.Standing.{AreSteady, Covers, IsStanding, IsSteadyAt, IsSteadyPage, StandBut}
+use Rattle.sx_history.specs.Marks.{AreLinkedBut, AreMarked, AreNamedBut, AreWhole, IsNoted, IsWhole, is_marked, view_at}
+use Rattle.sx_history.specs.Standing.{AreSteady, Covers, IfStanding, IsStanding, IsSteadyAt, IsSteadyPage, StandBut}
 use Rattle.sx_history.proofs.Trees.{IsLaw, read_is}
 use Rattle.sx_history.proofs.Says.{faults_same, found_same}
 
@@ -76,10 +76,10 @@ leaf_named Node Chain usable number rowid None None least whole same page node i
 
 -- ---- lists
 
-none_there : (x : ℕ) → Contains [] x → ⊥
+pub none_there : (x : ℕ) → Contains [] x → ⊥
 none_there x (k, within, is) = omega (arith, within)
 
-first_or : (one : ℕ) (changed : List ℕ) (x : ℕ) → (x ≡ one → ⊥) → (Contains changed x → ⊥) → Contains (one ∷ changed) x → ⊥
+pub first_or : (one : ℕ) (changed : List ℕ) (x : ℕ) → (x ≡ one → ⊥) → (Contains changed x → ⊥) → Contains (one ∷ changed) x → ⊥
 first_or one changed x differ other (zero, within, is) = differ (sym is)
 first_or one changed x differ other (suc k, within, is) = other (k, omega (arith, within), is)
 
@@ -257,3 +257,55 @@ module _ (numbers : List ℕ) (views : List (Option (List ℕ))) (size usable ro
           | inr linked ↦ inr (subst (IsLinked (IsNoted numbers chains)) (stand rank within other ∙ sym (map_at next numbers rank within)) linked)
         ]
       ]
+
+-- ---- what is kept, where it stands
+
+pub if_standing : (stands : Bool) (numbers : List ℕ) (views : List (Option (List ℕ))) (size usable root : ℕ) (rowid : ℤ) (history : History) (nodes chains : List Bool) → stands ≡ true
+    → IfStanding stands numbers views size usable root rowid history nodes chains → IsStanding numbers views size usable root rowid history nodes chains
+if_standing true numbers views size usable root rowid history nodes chains is kept = kept
+if_standing false numbers views size usable root rowid history nodes chains is kept = let clash : false ≡ true = is in absurd cc
+
+pub has_whole : (usable page_size : ℕ) (view : Option (List ℕ)) → usable ≤ page_size → page_size ≤ 65536 → ((page : List ℕ) → view ≡ Some page → length page ≡ page_size) → IsWhole usable view
+has_whole usable page_size None within small whole = tt
+has_whole usable page_size (Some page) within small whole = (omega (arith, within, whole page refl), omega (arith, small, whole page refl))
+
+pub whole_at : (usable : ℕ) (view : ℕ → Option (List ℕ)) (numbers : List ℕ) → ((number : ℕ) → IsWhole usable (view number)) → (rank : ℕ) → IsWhole usable (get_or (map view numbers) rank None)
+whole_at usable view [] whole rank = tt
+whole_at usable view (number ∷ numbers) whole zero = whole number
+whole_at usable view (number ∷ numbers) whole (suc rank) = whole_at usable view numbers whole rank
+
+pub all_whole : (usable : ℕ) (view : ℕ → Option (List ℕ)) (numbers : List ℕ) (views : List (Option (List ℕ))) → views ≡ map view numbers → ((number : ℕ) → IsWhole usable (view number)) → AreWhole usable views
+all_whole usable view numbers views are whole rank = subst (λ vs. IsWhole usable (view_at vs rank)) (sym are) (whole_at usable view numbers whole rank)
+
+-- without marks nothing is open
+pub none_marked : (count rank : ℕ) → is_marked (replicate count false) rank ≡ false
+none_marked zero rank = refl
+none_marked (suc count) zero = refl
+none_marked (suc count) (suc rank) = none_marked count rank
+
+none_true : (marks : List Bool) (count rank : ℕ) → marks ≡ replicate count false → is_marked marks rank ≡ true → ⊥
+none_true marks count rank are is =
+    let clash : false ≡ true = sym (none_marked count rank) ∙ ap (λ ms. is_marked ms rank) (sym are) ∙ is in cc
+
+pub none_named : (numbers : List ℕ) (views : List (Option (List ℕ))) (usable : ℕ) (nodes chains : List Bool) (work : List ℕ) (count : ℕ) → nodes ≡ replicate count false
+    → AreNamedBut numbers views usable nodes chains work
+none_named numbers views usable nodes chains work count are rank within is = absurd (none_true nodes count rank are is)
+
+pub none_linked : (numbers : List ℕ) (views : List (Option (List ℕ))) (chains : List Bool) (work : List ℕ) (count : ℕ) → chains ≡ replicate count false → AreLinkedBut numbers views chains work
+none_linked numbers views chains work count are rank within is = absurd (none_true chains count rank are is)
+
+-- what was found of a moment, as it is kept
+pub first_standing : (numbers : List ℕ) (views : List (Option (List ℕ))) (size pages usable root : ℕ) (rowid : ℤ) (history : History) (nodes chains : List Bool) (next : ℕ → Option (List ℕ))
+    → Covers numbers next → views ≡ map next numbers → 480 ≤ usable → ((number : ℕ) → IsWhole usable (next number)) → size ≡ pages
+    → items_by history ≡ found_of pages next usable root rowid → faults_by history ≡ faults_of pages next usable root
+    → AreMarked numbers views usable root nodes chains → IsStanding numbers views size usable root rowid history nodes chains
+first_standing numbers views size pages usable root rowid history nodes chains next covers are least whole sizes found faults marked = record {
+  view = next;
+  covered = covers;
+  views_are = are;
+  least = least;
+  whole = whole;
+  found_is = found ∙ ap (λ n. found_of n next usable root rowid) (sym sizes);
+  faults_are = faults ∙ ap (λ n. faults_of n next usable root) (sym sizes);
+  marked = marked;
+}

@@ -5,3 +5,4 @@ pub mod Says
 pub mod Marking
 pub mod Leafing
 pub mod Keeping
+pub mod Looking

@@ -7,11 +7,13 @@ mod leaf;
 mod listing;
 mod marks;
 mod steady;
+mod walk;
 
 pub use found::Found;
 pub use gathering::history;
 pub use listing::History;
 pub use sx_row::RowFault;
+pub use walk::HistoryWalk;
 
 #[cfg(test)]
 mod tests;
