@@ -1,7 +1,7 @@
 -- What is kept of a moment stands for the next, where the pages that changed are steady.
 use Rattle.std.proofs.Common.{◌≡◌, ℕ, ℤ, zero, suc, ◌+◌, ◌-◌, ◌<◌, ◌≤◌, ◌⊎◌, inl, inr, Bool, true, false, List, [], ◌∷◌, ◌++◌, length, map, replicate, get_or, Option, Some, None, is_some, Result, Ok, Err, refl, sym, ap, subst, ◌∙◌, arith, Contains}
 use Rattle.std.specs.Prelude.{IsTrue, IsSome}
-use Rattle.std.specs.List.{All, flat_map, range_with_len}
+use Rattle.std.specs.List.{flat_map, range_with_len}
 use Rattle.std.proofs.lemmas.Bool.{cases_eq, cases_lt}
 use Rattle.std.proofs.lemmas.List.{get_or_default}
 use Rattle.std.proofs.lemmas.List.Elements.{All-nil, All-same}
@@ -12,14 +12,13 @@ use Rattle.sx_cell.specs.Local.{spilled}
 use Rattle.sx_cell.proofs.CellLemmas.{has_ranges}
 use Rattle.sx_node.specs.Nodes.{NodePage, node_of, cell_count, cell_in, pointer_at, right_child}
 use Rattle.sx_node.specs.Targets.{targets_of, cell_targets, cell_targets_from, child_target, overflow_target, right_target}
-use Rattle.sx_node.specs.declared.targets.NodeTarget.{NodeTarget}
 use Rattle.sx_history.specs.declared.listing.History.{History}
 use Rattle.sx_history.specs.Given.{faults_by, items_by}
 use Rattle.sx_history.specs.History.{faults_of, found_of}
-use Rattle.sx_history.specs.Leaves.{IsLeaf, IsLocal, LeafSays, SaySame, StaysLeaf}
+use Rattle.sx_history.specs.Leaves.{IsLeaf, IsLocal, StaysLeaf}
 use Rattle.sx_history.specs.Closed.{AllNamed, IsClosed, IsLinked, IsNamed, IsSteady}
 use Rattle.sx_history.specs.Marks.{AreLinkedBut, AreMarked, AreNamedBut, AreWhole, IsNoted, IsWhole, is_marked, view_at}
-use Rattle.sx_history.specs.Standing.{AreSteady, Covers, IfStanding, IsStanding, IsSteadyAt, IsSteadyPage, StandBut}
+use Rattle.sx_history.specs.Standing.{AreSteady, Covers, IfStanding, IsStanding, IsSteadyPage, StandBut}
 use Rattle.sx_history.proofs.Trees.{IsLaw, read_is}
 use Rattle.sx_history.proofs.Says.{faults_same, found_same}
 
@@ -161,9 +160,9 @@ module _ (numbers : List ℕ) (views : List (Option (List ℕ))) (size usable ro
 
     is_steady : IsSteady usable rowid kept.view next (IsNoted numbers nodes) (IsNoted numbers chains)
     is_steady = record {
-      held = λ number. elim (among number) [ | inl there ↦ held_at number there | inr same ↦ ap is_some same ];
-      node = λ number noted. elim (among number) [ | inl there ↦ leaf_at number noted there | inr same ↦ inl same ];
-      chain = λ number noted. elim (among number) [ | inl there ↦ same_at number noted there | inr same ↦ same ];
+      held = λ number. elim (among number) [ inl there ↦ held_at number there | inr same ↦ ap is_some same ];
+      node = λ number noted. elim (among number) [ inl there ↦ leaf_at number noted there | inr same ↦ inl same ];
+      chain = λ number noted. elim (among number) [ inl there ↦ same_at number noted there | inr same ↦ same ];
     }
 
     named_at : (rank number : ℕ) → rank < length numbers → get_or numbers rank 0 ≡ number → is_marked nodes rank ≡ true
@@ -185,11 +184,11 @@ module _ (numbers : List ℕ) (views : List (Option (List ℕ))) (size usable ro
     is_closed : IsClosed kept.view usable (IsNoted numbers nodes) (IsNoted numbers chains)
     is_closed = record {
       nodes = λ number noted page node is read.
-        let at = noted (kept.covered number (ap is_some is)) in
-        named_at at.0 number at.1 at.2 at.3 page node is read;
+          let at = noted (kept.covered number (ap is_some is)) in
+          named_at at.0 number at.1 at.2 at.3 page node is read;
       chains = λ number noted page is.
-        let at = noted (kept.covered number (ap is_some is)) in
-        linked_at at.0 number at.1 at.2 at.3 page is;
+          let at = noted (kept.covered number (ap is_some is)) in
+          linked_at at.0 number at.1 at.2 at.3 page is;
     }
 
     law : IsLaw usable root rowid kept.view next (IsNoted numbers nodes) (IsNoted numbers chains)
@@ -229,10 +228,10 @@ module _ (numbers : List ℕ) (views : List (Option (List ℕ))) (size usable ro
       marked = record {
         at_root = kept.marked.at_root;
         named = λ rank within is.
-          inr (subst (AllNamed (IsNoted numbers nodes) (IsNoted numbers chains) usable (get_or numbers rank 0)) (sym (map_at next numbers rank within)) (named_now rank within is));
+            inr (subst (AllNamed (IsNoted numbers nodes) (IsNoted numbers chains) usable (get_or numbers rank 0)) (sym (map_at next numbers rank within)) (named_now rank within is));
         linked = λ rank within is.
-          inr (subst (IsLinked (IsNoted numbers chains)) (sym (map_at next numbers rank within))
-          (subst (IsLinked (IsNoted numbers chains)) (sym ((by_rank rank within).same is)) (linked_at rank (get_or numbers rank 0) within refl is)));
+            inr (subst (IsLinked (IsNoted numbers chains)) (sym (map_at next numbers rank within))
+            (subst (IsLinked (IsNoted numbers chains)) (sym ((by_rank rank within).same is)) (linked_at rank (get_or numbers rank 0) within refl is)));
       };
     }
 

@@ -1,6 +1,6 @@
 -- What the cells of a leaf say, one after the other.
-use Rattle.std.proofs.Common.{◌≡◌, ℕ, ℤ, zero, suc, ◌+◌, ◌-◌, ◌<◌, ◌≤◌, inl, inr, ◌⊎◌, Bool, true, false, cond, List, [], ◌∷◌, ◌++◌, Option, Some, None, refl, sym, ap, subst, ◌∙◌, arith, append_assoc, append-nil}
-use Rattle.std.specs.List.{filter_map, count_by, cons_option, range_with_len}
+use Rattle.std.proofs.Common.{◌≡◌, ℕ, ℤ, suc, ◌+◌, ◌-◌, ◌<◌, ◌≤◌, inl, inr, Bool, true, false, cond, List, [], ◌∷◌, ◌++◌, Option, sym, ap, subst, ◌∙◌, arith, append_assoc}
+use Rattle.std.specs.List.{filter_map, count_by, range_with_len}
 use Rattle.std.specs.Option.{option_to_list}
 use Rattle.std.proofs.lemmas.List.Sums.{sum_by-cons}
 use Rattle.std.proofs.lemmas.Bool.{cases_lt}
@@ -43,8 +43,8 @@ pub found_more : (rowid : ℤ) (node : NodePage) (index : ℕ) (page : List ℕ)
     → more ++ leaf_found rowid node (index + 1) ≡ all
 found_more rowid node index page number front more all found same_page same_number below is before added =
     let own : found ≡ row_found rowid node.number index (local_row node.page (cell_in node index)) =
-        is ∙ ap (λ n. row_found rowid n index (local_row page (cell_in node index))) (sym same_number)
-        ∙ ap (λ p. row_found rowid node.number index (local_row p (cell_in node index))) (sym same_page) in
+    is ∙ ap (λ n. row_found rowid n index (local_row page (cell_in node index))) (sym same_number)
+    ∙ ap (λ p. row_found rowid node.number index (local_row p (cell_in node index))) (sym same_page) in
     ap (λ l. l ++ leaf_found rowid node (index + 1)) (added ∙ ap (λ o. front ++ option_to_list o) own)
     ∙ append_assoc front (option_to_list (row_found rowid node.number index (local_row node.page (cell_in node index)))) (leaf_found rowid node (index + 1))
     ∙ ap (λ l. front ++ l) (sym (found_next rowid node index below))

@@ -1,5 +1,5 @@
 -- The views that are kept of pages, taken anew where they may have changed.
-use Rattle.std.proofs.Common.{◌≡◌, ℕ, zero, suc, refl, ◌+◌, ◌<◌, List, [], ◌∷◌, length, map, fold, set, take, get_or, Option, None, sym, ap, ◌∙◌, arith, inl, inr, ◌⊎◌, Contains}
+use Rattle.std.proofs.Common.{◌≡◌, ℕ, ◌+◌, ◌<◌, List, [], ◌∷◌, length, map, fold, set, take, get_or, Option, None, sym, ap, ◌∙◌, arith, inl, inr, ◌⊎◌, Contains}
 use Rattle.std.specs.List.{All}
 use Rattle.std.proofs.lemmas.List.{get_or-set_same, get_or-set_other, length-map, length-set, map-set, ext_get_or}
 use Rattle.std.proofs.lemmas.Bool.{cases_eq}

@@ -1,6 +1,6 @@
 -- Marks that grow, and lists of ranks that are to be looked at.
-use Rattle.std.proofs.Common.{◌≡◌, ℕ, zero, suc, ◌+◌, ◌-◌, ◌<◌, ◌≤◌, ◌⊎◌, inl, inr, Bool, true, false, not, cond, List, [], ◌∷◌, ◌++◌, length, map, set, get_or, Option, Some, None, Result, Ok, Err, refl, sym, ap, subst, ◌∙◌, arith, append_assoc, Contains}
-use Rattle.std.specs.List.{All, count_by, AllByRecursion}
+use Rattle.std.proofs.Common.{◌≡◌, ℕ, zero, suc, ◌+◌, ◌-◌, ◌<◌, ◌≤◌, ◌⊎◌, inl, inr, Bool, true, false, not, cond, List, [], ◌∷◌, ◌++◌, length, map, set, get_or, Option, None, Result, Ok, Err, refl, sym, ap, subst, ◌∙◌, arith, append_assoc, Contains}
+use Rattle.std.specs.List.{All}
 use Rattle.std.specs.Prelude.{OnOk}
 use Rattle.std.specs.List.Sorted.{IsStrictlyIncreasing}
 use Rattle.std.proofs.lemmas.Bool.{cases_eq, cases_lt}
@@ -8,13 +8,12 @@ use Rattle.std.proofs.lemmas.List.{get_or-set_same, get_or-set_other, length-set
 use Rattle.std.proofs.lemmas.List.Elements.{All-push, All-weaker, Contains-push, Contains-push_cases, Contains-append_left}
 use Rattle.std.proofs.lemmas.List.Sums.{sum_by-set}
 use Rattle.std.proofs.Math.ListN.{get_or-map}
-use Rattle.sx_node.specs.Nodes.{NodePage, node_of}
 use Rattle.sx_node.specs.Targets.{targets_of}
 use Rattle.sx_node.specs.declared.targets.NodeTarget.{NodeTarget}
 use Rattle.sx_node.specs.declared.targets.NodeTarget.TheVariants.{Child, Overflow, Right}
 use Rattle.sx_history.specs.Closed.{AllNamed, IsLinked, IsNamed}
 use Rattle.sx_overflow.specs.Chains.{link_of}
-use Rattle.sx_history.specs.Marks.{AreKept, AreLinkedBut, AreMarked, AreNamedBut, Grows, IsNoted, is_marked, view_at}
+use Rattle.sx_history.specs.Marks.{AreKept, AreLinkedBut, AreNamedBut, Grows, IsNoted, is_marked, view_at}
 
 pub grows_none : (marks : List Bool) (work : List ℕ) → Grows marks marks work work
 grows_none marks work = record {
@@ -61,10 +60,10 @@ grows_one marks work rank within unmarked = record {
   fresh = λ one is. one_fresh marks work rank one (cases_eq one rank) is;
   listed = λ one there. Contains-append_left work (rank ∷ []) one there;
   count =
-    let less = sum_by-set (λ (mark : Bool). cond (not mark) 1 0) marks rank true false within in
-    let long : length (work ++ rank ∷ []) ≡ length work + 1 = length-append work (rank ∷ []) in
-    let had : ◌≡◌ {A = ℕ} (cond (not (get_or marks rank false)) 1 0) 1 = ap (λ mark. cond (not mark) 1 0) unmarked in
-    omega (arith, less, long, had);
+      let less = sum_by-set (λ (mark : Bool). cond (not mark) 1 0) marks rank true false within in
+      let long : length (work ++ rank ∷ []) ≡ length work + 1 = length-append work (rank ∷ []) in
+      let had : ◌≡◌ {A = ℕ} (cond (not (get_or marks rank false)) 1 0) 1 = ap (λ mark. cond (not mark) 1 0) unmarked in
+      omega (arith, less, long, had);
 }
 
 pub noted_one : (numbers : List ℕ) (marks : List Bool) (rank number : ℕ) → length marks ≡ length numbers → rank < length numbers → get_or numbers rank 0 ≡ number → is_marked marks rank ≡ true

@@ -1,13 +1,12 @@
 -- A row stands where its page has the same view, and so have the overflow pages that its payload needs.
-use Rattle.std.proofs.Common.{◌≡◌, ℕ, zero, suc, ◌-◌, ◌+◌, ◌==◌, ◌⊎◌, inl, inr, Bool, true, false, if◌then◌else◌, List, [], ◌∷◌, ◌++◌, length, nat_le, Option, Some, None, unwrap_or, is_some, filter, cond, Result, Ok, Err, refl, sym, ap, ◌∙◌, arith, append-nil, eqb-true}
-use Rattle.std.specs.List.{concat, range_with_len, AllByRecursion}
+use Rattle.std.proofs.Common.{◌≡◌, ℕ, zero, suc, ◌-◌, ◌==◌, Bool, true, false, if◌then◌else◌, List, [], ◌∷◌, ◌++◌, length, nat_le, Option, Some, None, unwrap_or, is_some, filter, cond, refl, sym, ap, ◌∙◌, arith, append-nil, eqb-true}
+use Rattle.std.specs.List.{concat, range_with_len}
 use Rattle.std.specs.Option.{option_map_or}
 use Rattle.sx_base.specs.Held.{held_pages}
 use Rattle.sx_cell.specs.declared.cell.Cell.{Cell}
 use Rattle.sx_cell.specs.Local.{need_of, spilled}
-use Rattle.sx_node.specs.Targets.{cell_targets, overflow_target, child_target}
 use Rattle.sx_overflow.specs.Chains.{link_of, linked, chain_of, overflow_pages, bodies_of}
-use Rattle.sx_overflow.specs.Payloads.{ToCome, payload_of, to_come, some_piece, local_part, local_payload}
+use Rattle.sx_overflow.specs.Payloads.{to_come, some_piece, local_part, local_payload}
 use Rattle.sx_overflow.proofs.Pieces.{need_none}
 use Rattle.sx_row.specs.Rows.{joined, row_payload}
 use Rattle.sx_history.specs.Closed.{IsLinked}

@@ -1,12 +1,11 @@
 -- Such a tree says the same of a rowid: the same rows have it, and as many items are faults.
-use Rattle.std.proofs.Common.{◌≡◌, ℕ, ℤ, zero, suc, ◌+◌, ◌-◌, ◌≤◌, ◌<◌, ◌⊎◌, inl, inr, Bool, true, false, if◌then◌else◌, cond, List, [], ◌∷◌, ◌++◌, length, nat_le, nat_lt, Option, Some, None, Result, Ok, Err, refl, sym, ap, subst, ◌∙◌, arith, append-nil}
+use Rattle.std.proofs.Common.{◌≡◌, ℕ, ℤ, zero, suc, ◌+◌, ◌-◌, ◌≤◌, ◌<◌, inl, inr, Bool, true, false, if◌then◌else◌, cond, List, [], ◌∷◌, ◌++◌, length, nat_le, nat_lt, Option, Some, None, Result, Ok, Err, refl, sym, ap, subst, ◌∙◌, arith, append-nil}
 use Rattle.std.specs.Prelude.{IsTrue, IsSome}
 use Rattle.std.specs.List.{flat_map, filter_map, count_by, cons_option, range_with_len, AllByRecursion}
 use Rattle.std.proofs.lemmas.Bool.Decides.{nat_tests}
 use Rattle.std.proofs.lemmas.Grind.{flat_map-append}
 use Rattle.std.proofs.lemmas.List.Elements.{filter_map-append, recursion_from_All}
 use Rattle.std.proofs.lemmas.List.Sums.{sum_by-append, sum_by-cons}
-use Rattle.sx_base.specs.Held.{held_pages}
 use Rattle.sx_cell.specs.declared.cell.Kind.{Kind}
 use Rattle.sx_cell.specs.declared.cell.Kind.TheVariants.{TableLeaf, TableInner, IndexLeaf, IndexInner}
 use Rattle.sx_cell.specs.declared.cell.Cell.{Cell}
@@ -22,15 +21,15 @@ use Rattle.sx_tree.specs.declared.item.TreeFault.{TreeFault}
 use Rattle.sx_tree.specs.declared.item.TreeFault.TheVariants.{BadCell, DoubleClaim, OtherKind}
 use Rattle.sx_tree.specs.declared.parts.Part.{Part}
 use Rattle.sx_tree.specs.declared.parts.Part.TheVariants.{Item, Child}
-use Rattle.sx_tree.specs.Parts.{cell_parts, child_parts, row_parts, has_row, parts_of_cells, parts_of}
+use Rattle.sx_tree.specs.Parts.{cell_parts, child_parts, row_parts, parts_of_cells, parts_of}
 use Rattle.sx_tree.specs.Trees.{tree_in, references, held_count}
 use Rattle.sx_tree.specs.Rows.{opened, page_in, root_kind, sound_node, is_other_kind, part_items, page_items, items_of, rows_of}
 use Rattle.sx_tree.proofs.Ways.{open_is}
-use Rattle.sx_row.specs.Rows.{RowContent, row_of, page_row, node_row, cell_row, columns_of, row_payload}
+use Rattle.sx_row.specs.Rows.{RowContent, row_of, page_row, node_row, cell_row, columns_of}
 use Rattle.sx_history.specs.declared.found.Found.{Found}
 use Rattle.sx_history.specs.History.{item_found, is_faulty, row_found, row_faulty, found_of, faults_of}
 use Rattle.sx_history.specs.Leaves.{local_row, IsLocal, IsLeaf, LeafSays, SaySame, StaysLeaf, leaf_found, leaf_faults}
-use Rattle.sx_history.specs.Closed.{IsNamed, IsClosed, IsSteady}
+use Rattle.sx_history.specs.Closed.{IsNamed}
 use Rattle.sx_history.proofs.SameRows.{held_same, chain_same, payload_same, local_is}
 use Rattle.sx_history.proofs.Trees.{IsLaw, all_append, all_front, all_back, read_is, opened_by, count_same}
 
@@ -287,7 +286,7 @@ module _ (size usable root : ℕ) (rowid : ℤ) (view next : ℕ → Option (Lis
       let there : every says.node.number ≡ Some page = ap every of_.same_number ∙ is in
       let read : node_of page says.node.number usable ≡ Ok says.node = ap (λ k. node_of page k usable) of_.same_number ∙ says.read in
       let both = leaf_says size every usable rowid page says.node there read of_.same_usable (omega (arith, law.least, of_.same_usable))
-          (omega (arith, within, of_.same_usable, ap length of_.same_page)) says.leaf below in
+      (omega (arith, within, of_.same_usable, ap length of_.same_page)) says.leaf below in
       (both.0 ∙ sym says.found_is, both.1 ∙ sym says.faults_are)
 
   two_leaves : (below above : ℕ → List RowItem) (n : ℕ) (page other : List ℕ) → view n ≡ Some page → next n ≡ Some other → (same : SaySame usable n rowid page other)

@@ -1,25 +1,21 @@
 -- A tree whose pages stay as they are, but for leaves that say the same of a rowid, has the same pages, and opens them alike.
-use Rattle.std.proofs.Common.{◌≡◌, ℕ, ℤ, zero, suc, ◌≤◌, ◌||◌, ◌⊎◌, inl, inr, Bool, true, false, if◌then◌else◌, cond, List, [], ◌∷◌, ◌++◌, length, fold, filter, nat_le, nat_lt, nat_eq, Option, Some, None, is_some, Result, Ok, Err, refl, sym, ap, subst, ◌∙◌, arith}
-use Rattle.std.specs.List.{flat_map, list_any, All, AllByRecursion}
+use Rattle.std.proofs.Common.{◌≡◌, ℕ, ℤ, zero, suc, ◌≤◌, inl, inr, Bool, true, false, if◌then◌else◌, cond, List, [], ◌∷◌, ◌++◌, length, fold, filter, nat_le, nat_lt, Option, Some, None, Result, Ok, Err, refl, sym, ap, subst, ◌∙◌, arith}
+use Rattle.std.specs.List.{flat_map, AllByRecursion}
 use Rattle.std.proofs.lemmas.List.Elements.{recursion_from_All}
 use Rattle.std.proofs.lemmas.Bool.Decides.{nat_tests}
-use Rattle.sx_base.specs.Held.{held_pages}
 use Rattle.sx_base.specs.Bytes.{byte_at}
 use Rattle.sx_cell.specs.declared.cell.Kind.{Kind}
-use Rattle.sx_cell.specs.Kinds.{has_child}
 use Rattle.sx_node.specs.declared.node.NodeFault.{NodeFault}
 use Rattle.sx_node.specs.declared.node.NodeFault.TheVariants.{BadFlag, BadArray}
 use Rattle.sx_node.specs.declared.targets.NodeTarget.{NodeTarget}
 use Rattle.sx_node.specs.declared.targets.NodeTarget.TheVariants.{Child, Overflow, Right}
 use Rattle.sx_node.specs.Nodes.{NodePage, IsNodeOf, node_of, of_kind, with_array, kind_of, header_at, array_end}
 use Rattle.sx_node.specs.Targets.{targets_of}
-use Rattle.sx_tree.specs.Trees.{Tree, tree_in, is_held, child_in, children_of, node_children, view_children, children, names, with_number, each_once, named_by, rounds, held_count, tree_pages, references, times, stands_in}
-use Rattle.sx_tree.specs.Rows.{opened, page_in, root_kind, view_kind, kind_in, sound_node, is_other_kind}
-use Rattle.sx_tree.specs.declared.item.TreeFault.TheVariants.{DoubleClaim, OtherKind}
-use Rattle.sx_tree.specs.declared.item.TreeFault.{TreeFault}
+use Rattle.sx_tree.specs.Trees.{Tree, tree_in, is_held, child_in, node_children, view_children, children, names, with_number, each_once, rounds, held_count, tree_pages, references, times, stands_in}
+use Rattle.sx_tree.specs.Rows.{opened, page_in, root_kind, view_kind, kind_in}
 use Rattle.sx_tree.proofs.Leaves.{leaf_none}
 use Rattle.sx_history.specs.declared.found.Found.{Found}
-use Rattle.sx_history.specs.Leaves.{LeafSays, SaySame, StaysLeaf, IsLeaf}
+use Rattle.sx_history.specs.Leaves.{LeafSays, StaysLeaf}
 use Rattle.sx_history.specs.Closed.{IsNamed, AllNamed, IsClosed, IsSteady}
 use Rattle.sx_history.proofs.SameRows.{filter_same, held_same}
 

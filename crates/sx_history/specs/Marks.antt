@@ -1,5 +1,5 @@
 -- The pages that a walk over a tree may go to, as marks by rank: the rank of a page is its place in a list of numbers.
-use Rattle.std.specs.Prelude.{◌≡◌, ◌⊎◌, ℕ, ◌+◌, ◌<◌, ◌≤◌, Bool, true, false, not, List, [], length, map, count_by, slice_index, slice_index_or, Option, None, Some, ⊤}
+use Rattle.std.specs.Prelude.{◌≡◌, ◌⊎◌, ℕ, ◌+◌, ◌<◌, ◌≤◌, Bool, true, false, not, List, [], length, count_by, slice_index, slice_index_or, Option, None, Some, ⊤}
 use Rattle.std.specs.List.{Contains}
 use Rattle.sx_history.specs.Closed.{AllNamed, IsLinked}
 

@@ -1,5 +1,5 @@
 -- What a tree says of a rowid at one moment after the other, over one list of page numbers.
-use Rattle.std.specs.Prelude.{◌≡◌, ◌⊎◌, ℕ, ℤ, ◌<◌, ◌≤◌, Bool, true, false, List, length, map, slice_index, slice_index_or, Option, Some, None, is_some, ⊤}
+use Rattle.std.specs.Prelude.{◌≡◌, ◌⊎◌, ℕ, ℤ, ◌<◌, ◌≤◌, Bool, true, false, List, length, map, slice_index, Option, is_some, ⊤}
 use Rattle.std.specs.List.{Contains}
 use Rattle.sx_history.specs.declared.found.Found.{Found}
 use Rattle.sx_history.specs.declared.listing.History.{History}

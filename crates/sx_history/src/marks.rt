@@ -39,9 +39,7 @@ pub(crate) fn mark_on(
     let mut work = ranks_of(alloc, changed)?;
     let mut later = ranks_of(alloc, changed)?;
     note(numbers, nodes, &mut work, root)?;
-    note_nodes(
-        numbers, views, usable, nodes, chains, &mut work, &mut later,
-    )?;
+    note_nodes(numbers, views, usable, nodes, chains, &mut work, &mut later)?;
     note_chains(numbers, views, usable, chains, &mut later)
 }
 
@@ -84,9 +82,7 @@ fn note_nodes(
     ensures chained { OnOk result (Grows chains.old.items chains.new.items later.old.items later.new.items) }
 {
     while let Some(rank) = work.pop() {
-        note_names(
-            numbers, views, usable, rank, nodes, chains, work, later,
-        )?;
+        note_names(numbers, views, usable, rank, nodes, chains, work, later)?;
     }
     Ok(())
 }

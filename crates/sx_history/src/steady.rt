@@ -70,7 +70,9 @@ fn is_steady(
 {
     match (before, now) {
         (None, None) => Ok(true),
-        (Some(before), Some(now)) => view_steady(alloc, usable, no, rowid, before, now, node, chain),
+        (Some(before), Some(now)) => view_steady(
+            alloc, usable, no, rowid, before, now, node, chain,
+        ),
         _ => Ok(false),
     }
 }

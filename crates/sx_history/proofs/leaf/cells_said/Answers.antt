@@ -1,9 +1,8 @@
-use Rattle.std.proofs.Common.{◌≡◌, ◌∙◌, ◌++◌, ◌+◌, ◌<◌, ◌≤◌, cond, refl, sym, ap, rules, arith, w64, to_z, of_z, ℤ, List, ℕ, append-nil}
+use Rattle.std.proofs.Common.{◌≡◌, ◌∙◌, ◌++◌, ◌<◌, ◌≤◌, refl, sym, ap, arith, w64, to_z, of_z, append-nil}
 use Rattle.std.proofs.Math.Facts.{to_z-of_z}
-use Rattle.sx_node.specs.Nodes.{cell_count, cell_in}
+use Rattle.sx_node.specs.Nodes.{cell_count}
 use Rattle.sx_history.specs.Given.{faults_by, items_by}
-use Rattle.sx_history.specs.Leaves.{leaf_found, local_row}
-use Rattle.sx_history.specs.History.{row_found}
+use Rattle.sx_history.specs.Leaves.{leaf_found}
 use Rattle.sx_history.proofs.Leafing.{found_more, faults_more, local_more, found_none, one_most}
 use Rattle.sx_history.proofs.leaf.cells_said.Goals as goal
 

@@ -1,4 +1,4 @@
-use Rattle.std.proofs.Common.{◌≡◌, ◌∙◌, sym, ap, subst, [], map, option_copied, List, ℕ}
+use Rattle.std.proofs.Common.{sym, subst, [], map, option_copied}
 use Rattle.std.proofs.lemmas.Result.{on_ok_weaker}
 use Rattle.sx_history.specs.Marks.{AreKept, AreNamedBut, AreLinkedBut}
 use Rattle.sx_history.proofs.Marking.{linked_grown, named_grown, noted_still, names_kept, on_ok_both}

@@ -1,4 +1,4 @@
-use Rattle.std.proofs.Common.{◌≡◌, ◌∙◌, ◌++◌, ◌∷◌, [], sym, ap, map, option_copied, List, ℕ, rules}
+use Rattle.std.proofs.Common.{◌≡◌, ◌++◌, ◌∷◌, [], map, option_copied, rules}
 use Rattle.sx_history.proofs.Marking.{linked_next}
 use Rattle.sx_history.proofs.marks.note_chains.Goals as goal
 

@@ -1,4 +1,4 @@
-use Rattle.std.proofs.Common.{◌≡◌, ◌∙◌, ◌≤◌, Some, option_copied, map, List, ℕ, sym, ap, refl, subst, length, arith}
+use Rattle.std.proofs.Common.{◌≡◌, ◌∙◌, Some, option_copied, map, sym, ap, refl, subst, arith}
 use Rattle.std.proofs.lemmas.Result.{on_ok_weaker}
 use Rattle.sx_history.specs.Marks.{IsNoted, IsWhole, view_at}
 use Rattle.sx_overflow.specs.Chains.{link_of}

@@ -1,7 +1,7 @@
-use Rattle.std.proofs.Common.{◌≡◌, ◌∙◌, ◌≤◌, Some, Ok, option_copied, map, List, ℕ, sym, ap, refl, subst, length, slice_index, arith}
+use Rattle.std.proofs.Common.{◌≡◌, ◌∙◌, Some, Ok, option_copied, map, sym, ap, refl, subst, slice_index}
 use Rattle.std.specs.List.{All}
 use Rattle.std.proofs.lemmas.Result.{on_ok_weaker}
-use Rattle.sx_node.specs.Nodes.{NodePage, node_of}
+use Rattle.sx_node.specs.Nodes.{node_of}
 use Rattle.sx_node.specs.Targets.{targets_of}
 use Rattle.sx_history.specs.Closed.{IsNamed}
 use Rattle.sx_history.specs.Marks.{IsNoted, IsWhole, view_at}

@@ -1,8 +1,5 @@
-use Rattle.std.proofs.Common.{◌≡◌, ◌∙◌, ◌∷◌, sym, ap, subst, List, ℕ, rules}
-use Rattle.std.proofs.lemmas.List.Elements.{All-weaker}
+use Rattle.std.proofs.Common.{◌≡◌, ◌∷◌, rules}
 use Rattle.sx_node.specs.declared.targets.NodeTarget.TheVariants.{Child, Overflow, Right}
-use Rattle.sx_history.specs.Closed.{IsNamed}
-use Rattle.sx_history.specs.Marks.{IsNoted}
 use Rattle.sx_history.proofs.Marking.{grows_then, named_target}
 use Rattle.sx_history.proofs.marks.note_targets.Goals as goal
 

@@ -1,7 +1,7 @@
-use Rattle.std.proofs.Common.{◌≡◌, ◌<◌, ◌∙◌, ℕ, ℤ, List, None, get_or, map, length, option_copied, refl, sym, ap, subst, arith, w64, to_z, of_z}
+use Rattle.std.proofs.Common.{◌≡◌, ◌∙◌, None, get_or, map, option_copied, refl, sym, subst, arith, w64, to_z, of_z}
 use Rattle.std.proofs.Math.Facts.{to_z-of_z}
 use Rattle.std.proofs.lemmas.List.{get_or_default}
-use Rattle.sx_history.specs.Marks.{IsWhole, is_marked, view_at}
+use Rattle.sx_history.specs.Marks.{IsWhole, is_marked}
 use Rattle.sx_history.specs.Standing.{IsSteadyAt, IsSteadyPage}
 use Rattle.sx_history.proofs.Keeping.{one_more}
 use Rattle.sx_history.proofs.Marking.{view_is}
@@ -23,9 +23,9 @@ loop-rank-preserved g c =
     let rank = get_or changed c.loop-rank.rank-index 0 in
     let found = c.in_ok-is_steady.ensures c.if-not-branch.false in
     let now = subst (λ v. IsSteadyPage c.args.usable (get_or numbers rank 0) rowid (option_copied (get_or views rank None)) v (is_marked c.args.nodes.now rank) (is_marked c.args.chains.now rank))
-        c.page.ensures.view found in
+    c.page.ensures.view found in
     let steady = subst (λ v. IsSteadyPage c.args.usable (get_or numbers rank 0) rowid v (view (get_or numbers rank 0)) (is_marked c.args.nodes.now rank) (is_marked c.args.chains.now rank))
-        (sym (view_is option_copied views rank (get_or views rank None) refl refl)) now in
+    (sym (view_is option_copied views rank (get_or views rank None) refl refl)) now in
     one_more (λ k. IsSteadyAt c.args.usable rowid numbers (map option_copied views) view c.args.nodes.now c.args.chains.now (get_or changed k 0)) c.loop-rank.rank-index c.loop-rank.invariant steady
 
 pub returns : goal.returns

@@ -1,10 +1,8 @@
-use Rattle.std.proofs.Common.{◌≡◌, ◌∙◌, ap, map, option_copied, length, subst, sym, refl, ℕ, ℤ, List, rules, w64, to_z, of_z}
+use Rattle.std.proofs.Common.{◌≡◌, ◌∙◌, ap, map, option_copied, length, subst, sym, ℕ, rules, w64, to_z, of_z}
 use Rattle.std.proofs.lemmas.List.{length-map}
 use Rattle.std.specs.List.Sorted.{IsStrictlyIncreasing}
-use Rattle.sx_history.specs.Given.{items_by, faults_by}
-use Rattle.sx_history.specs.History.{faults_of, found_of}
 use Rattle.sx_history.specs.Marks.{AreMarked, IsWhole}
-use Rattle.sx_history.specs.Standing.{Covers, IsStanding}
+use Rattle.sx_history.specs.Standing.{IsStanding}
 use Rattle.sx_history.proofs.Keeping.{all_whole, first_standing, has_whole}
 use Rattle.sx_history.proofs.walk.HistoryWalk.start.Goals as goal
 
@@ -25,14 +23,14 @@ invariant_of-result g c =
     let are : views ≡ map next c.args.numbers.now = c.in_ok-views.ensures in
     let viewed : map option_copied c.deref.result.now ≡ views = ap (map option_copied) c.deref.ensures.value in
     let marked : AreMarked c.args.numbers.now views c.args.usable c.args.root c.mark_on.new.nodes.items c.mark_on.new.chains.items =
-        subst (λ vs. AreMarked c.args.numbers.now vs c.args.usable c.args.root c.mark_on.new.nodes.items c.mark_on.new.chains.items) viewed c.in_ok-mark_on.ensures.marked in
+    subst (λ vs. AreMarked c.args.numbers.now vs c.args.usable c.args.root c.mark_on.new.nodes.items c.mark_on.new.chains.items) viewed c.in_ok-mark_on.ensures.marked in
     let whole : (n : ℕ) → IsWhole c.args.usable (next n) =
-        λ n. has_whole c.args.usable (g.P.PageViews.page_size c.args.pages.now) (next n) c.requires.within c.requires.small (λ page is. c.size-size.ensures.whole n page is) in
+    λ n. has_whole c.args.usable (g.P.PageViews.page_size c.args.pages.now) (next n) c.requires.within c.requires.small (λ page is. c.size-size.ensures.whole n page is) in
     let standing : IsStanding c.args.numbers.now views c.size-size.result c.args.usable c.args.root rowid c.in_ok-history.history c.mark_on.new.nodes.items c.mark_on.new.chains.items =
-        first_standing c.args.numbers.now views c.size-size.result pages c.args.usable c.args.root rowid c.in_ok-history.history c.mark_on.new.nodes.items c.mark_on.new.chains.items next
-        c.requires.covered are c.requires.least whole c.size-size.ensures.size c.in_ok-history.ensures.found c.in_ok-history.ensures.faults marked in
+    first_standing c.args.numbers.now views c.size-size.result pages c.args.usable c.args.root rowid c.in_ok-history.history c.mark_on.new.nodes.items c.mark_on.new.chains.items next
+    c.requires.covered are c.requires.least whole c.size-size.ensures.size c.in_ok-history.ensures.found c.in_ok-history.ensures.faults marked in
     let long : length c.in_ok-views.views.items ≡ length numbers =
-        sym (length-map c.in_ok-views.views.items option_copied) ∙ ap length are ∙ length-map c.args.numbers.now next ∙ ap length (sym same) in (
+    sym (length-map c.in_ok-views.views.items option_copied) ∙ ap length are ∙ length-map c.args.numbers.now next ∙ ap length (sym same) in (
       subst IsStrictlyIncreasing (sym same) c.requires.rising,
       long,
       c.in_ok-mark_on.ensures.nodes ∙ ap length (sym same),
