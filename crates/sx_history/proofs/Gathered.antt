@@ -6,7 +6,7 @@ use Rattle.std.proofs.lemmas.List.Sums.{sum_by-cons}
 use Rattle.sx_tree.specs.declared.item.RowItem.{RowItem}
 use Rattle.sx_history.specs.declared.found.Found.{Found}
 
-in_front : (found : Option Found) (rest : List Found) → cons_option found rest ≡ option_to_list found ++ rest
+pub in_front : (found : Option Found) (rest : List Found) → cons_option found rest ≡ option_to_list found ++ rest
 in_front None rest = refl
 in_front (Some found) rest = refl
 

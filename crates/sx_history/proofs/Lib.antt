@@ -1,1 +1,8 @@
 pub mod Gathered
+pub mod SameRows
+pub mod Trees
+pub mod Says
+pub mod Marking
+pub mod Leafing
+pub mod Keeping
+pub mod Looking

@@ -1,2 +1,6 @@
 pub mod History
 pub mod Given
+pub mod Leaves
+pub mod Closed
+pub mod Marks
+pub mod Standing

@@ -1,5 +1,5 @@
 //! The walk over a tree that gathers what it holds under a rowid.
-ghost use Rattle.std.specs.Prelude.{◌≡◌, ◌≤◌, is_some, IfOk};
+ghost use Rattle.std.specs.Prelude.{◌≡◌, ◌≤◌, None, Some, if◌then◌else◌, is_some, IfOk};
 ghost use Rattle.sx_row.specs.Lengths.{AreLengths};
 ghost use Rattle.sx_row.specs.Given.{content_of};
 ghost use Rattle.sx_history.specs.History.{faults_of, found_of, has_rowid, is_faulty, item_found, read_fault, read_found};
@@ -14,9 +14,9 @@ use sx_tree::{RowItem, Rows};
 
 /// What an item of a tree says: the row with the rowid, if it is one, and whether it is a fault.
 #[derive(Clone, Copy)]
-struct Said {
-    found: Option<Found>,
-    faulty: bool,
+pub(crate) struct Said {
+    pub(crate) found: Option<Found>,
+    pub(crate) faulty: bool,
 }
 
 /// What the tree with that root holds under a rowid, over pages with so many usable bytes: from 480 to the page size, which
@@ -88,8 +88,21 @@ fn row_said(row: &Row<'_>, rowid: i64, page: u32, cell: u32) -> Said
     ensures found { result.found ≡ read_found rowid page cell (content_of row.now) }
     ensures faulty { result.faulty ≡ is_some (read_fault (content_of row.now).columns) }
 {
-    let fault = fault_of(row);
-    let found = if has_rowid(row.rowid, rowid) {
+    said_by(row.rowid, fault_of(row), rowid, page, cell)
+}
+
+/// What a row says that has this rowid, if it has one, and whose columns can't be shown for this reason, where they can't.
+pub(crate) fn said_by(
+    own: Option<i64>,
+    fault: Option<RowFault>,
+    rowid: i64,
+    page: u32,
+    cell: u32,
+) -> Said
+    ensures found { result.found ≡ (if has_rowid rowid own then Some (record { page = page; cell = cell; fault = fault }) else None) }
+    ensures faulty { result.faulty ≡ is_some fault }
+{
+    let found = if has_rowid(own, rowid) {
         Some(Found { page, cell, fault })
     } else {
         None

@@ -3,12 +3,17 @@
 
 mod found;
 mod gathering;
+mod leaf;
 mod listing;
+mod marks;
+mod steady;
+mod walk;
 
 pub use found::Found;
 pub use gathering::history;
 pub use listing::History;
 pub use sx_row::RowFault;
+pub use walk::HistoryWalk;
 
 #[cfg(test)]
 mod tests;
