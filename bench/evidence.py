@@ -255,6 +255,33 @@ def busy(rows, commits, changed, tables=("message", "person", "call", "place")):
     return statements
 
 
+def edits(rows, commits, changed):
+    """A database of one table of about 240 bytes a row, and then a log of so many commits that each write a number of some
+    rows anew where it stands, so that no page but leaves changes."""
+
+    def statements(made):
+        made.execute("PRAGMA synchronous = OFF")
+        made.execute("PRAGMA journal_mode = OFF")
+        made.execute("BEGIN")
+        made.execute("CREATE TABLE message(id INTEGER PRIMARY KEY, sent INTEGER, name TEXT, body TEXT, extra BLOB)")
+        made.executemany(
+            "INSERT INTO message(sent, name, body, extra) VALUES (?, ?, ?, ?)",
+            (
+                (1700000000 + i * 37, f"name {i * 7919 % 100003}", f"the body of row {i} of message, " * 5, bytes((i * j) % 251 for j in range(40)))
+                for i in range(rows)
+            ),
+        )
+        made.execute("COMMIT")
+        keep_log(made)
+        for commit in range(commits):
+            made.execute("BEGIN")
+            for j in range(changed):
+                made.execute("UPDATE message SET sent = sent + 1 WHERE id = ?", ((commit * changed + j) * 7919 % rows + 1,))
+            made.execute("COMMIT")
+
+    return statements
+
+
 def freelist(rows, commits, vacuum=False):
     """A database of rows with a payload of 350 bytes, with full auto-vacuum where it is asked for, and then a log of so many
     commits of which each deletes rows or inserts some again, so that each takes pages from the freelist or gives some to it."""
