@@ -6,3 +6,4 @@ pub mod Marking
 pub mod Leafing
 pub mod Keeping
 pub mod Looking
+pub mod TwoPages

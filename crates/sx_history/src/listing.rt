@@ -1,5 +1,5 @@
 //! What a tree holds under a rowid.
-ghost use Rattle.std.specs.Prelude.{◌≡◌, ◌+◌, ◌++◌, ◌^◌, ◌<◌, OnOk, cond};
+ghost use Rattle.std.specs.Prelude.{◌≡◌, ◌+◌, ◌++◌, ◌^◌, ◌<◌, IfOk, OnOk, cond};
 ghost use Rattle.std.specs.Option.{option_to_list};
 
 use crate::found::Found;
@@ -40,6 +40,18 @@ impl History {
             self.faults += 1;
         }
         Ok(())
+    }
+
+    /// The same once more, for one that goes on by itself. It answers `AllocError` where memory runs out.
+    pub fn again(&self, alloc: Global) -> Result<Self, AllocError>
+        ensures found { IfOk result (λ history. items_by history ≡ items_by self.now) }
+        ensures faults { IfOk result (λ history. faults_by history ≡ faults_by self.now) }
+    {
+        let items = self.items.to_vec(alloc)?;
+        Ok(History {
+            items,
+            faults: self.faults,
+        })
     }
 
     /// The rows with the rowid, in the order of the tree: more than one only where the tree is damaged. A row whose columns

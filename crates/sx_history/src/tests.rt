@@ -1,4 +1,6 @@
 use super::*;
+use std::alloc::Global;
+use std::process::Abort;
 use std::test::Fail;
 use sx_base::Sheets;
 
@@ -34,5 +36,48 @@ fn a_row_is_found_by_its_rowid_and_faults_are_counted(rt: HostRuntime) -> Result
         .as_slice()
     );
     assert_eq!(rt; faulty.faults(), 1);
+    Ok(())
+}
+
+// A leaf page of a table with one row, of this rowid and with this byte in its column.
+fn one_row(rowid: u8, byte: u8) -> [u8; 512] {
+    let mut leaf = [0u8; 512];
+    leaf[..10].copy_from_slice(&[13, 0, 0, 0, 1, 1, 251, 0, 1, 251]);
+    leaf[507..].copy_from_slice(&[3, rowid, 2, 1, byte]);
+    leaf
+}
+
+/// How many rows have rowid 1 at the last of three moments of two pages, where those of the second are edited and those of the
+/// third others; at the first two moments one row has it.
+fn walked<'a>(
+    rt: &impl Abort,
+    alloc: Global,
+    first: &[&'a [u8]],
+    edited: &[&'a [u8]],
+    other: &[&'a [u8]],
+) -> Result<usize, Fail> {
+    assert!(rt; first.len() == 2);
+    assert!(rt; edited.len() == 2);
+    assert!(rt; other.len() == 2);
+    let mut walk = HistoryWalk::start(alloc, &Sheets::new(512, first), &[1, 2], 512, 2, 1)?;
+    assert_eq!(rt; walk.history().items().len(), 1);
+    walk.advance(&Sheets::new(512, edited), &[0, 1], 512, 2)?;
+    assert_eq!(rt; walk.history().items().len(), 1);
+    walk.advance(&Sheets::new(512, other), &[0, 1], 512, 2)?;
+    Ok(walk.history().items().len())
+}
+
+#[test]
+fn a_walk_keeps_what_an_edit_leaves(rt: HostRuntime) -> Result<(), Fail> {
+    let none = [0u8; 512];
+    let (first, edited, other) = (one_row(1, 5), one_row(1, 9), one_row(2, 9));
+    let last = walked(
+        &rt,
+        rt.alloc(),
+        &[&none, &first],
+        &[&none, &edited],
+        &[&none, &other],
+    )?;
+    assert_eq!(rt; last, 0);
     Ok(())
 }
