@@ -12,3 +12,4 @@ pub mod Shown
 pub mod StepLemmas
 pub mod Steadying
 pub mod SameGraph
+pub mod NoPages

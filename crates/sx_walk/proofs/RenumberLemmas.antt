@@ -1,12 +1,12 @@
 -- Numbers of overflow pages, written anew one after the other.
-use Rattle.std.proofs.Common.{◌≡◌, ℕ, zero, suc, ◌+◌, ◌<◌, ◌≤◌, ◌==◌, Bool, true, false, cond, List, [], ◌∷◌, ◌++◌, length, take, get_or, sum_by, Option, Some, None, inl, inr, refl, sym, ap, subst, ◌∙◌, arith}
+use Rattle.std.proofs.Common.{◌≡◌, ℕ, zero, suc, ◌+◌, ◌<◌, ◌≤◌, ◌==◌, ◌⊎◌, Bool, true, false, if◌then◌else◌, cond, List, [], ◌∷◌, ◌++◌, length, take, get_or, sum_by, Option, Some, None, inl, inr, refl, sym, ap, subst, ◌∙◌, arith}
 use Rattle.std.specs.List.{Contains, list_any, All}
 use Rattle.std.specs.Option.{option_map}
 use Rattle.std.proofs.lemmas.Bool.{eq-eqb, eqb-true, or_cases, false≢true, cases_lt}
 use Rattle.std.proofs.Math.ListN.{get_or-eq_default}
 use Rattle.std.proofs.lemmas.List.{get_or_default}
 use Rattle.std.proofs.lemmas.List.Sums.{get_or-le-sum_by}
-use Rattle.std.proofs.lemmas.List.Elements.{All-head, All-tail, Contains-push, Contains-append_left}
+use Rattle.std.proofs.lemmas.List.Elements.{All-nil, All-cons, All-head, All-tail, Contains-push, Contains-append_left}
 use Rattle.std.proofs.lemmas.List.Folds.{list_any_more, list_any_at}
 use Rattle.sx_closure.specs.declared.pair.Source.{Source}
 use Rattle.sx_closure.specs.declared.pair.Source.TheVariants.{Root, Cell, Page}
@@ -17,7 +17,9 @@ use Rattle.sx_closure.specs.Tallying.{Table, rank_of, count_of, one_of, one_at, 
 use Rattle.sx_closure.proofs.Numbering.{Among}
 use Rattle.sx_closure.proofs.Putting.{put_left_other, put_left_entry, put_left_dead}
 use Rattle.sx_closure.proofs.Ranks.{rank_found}
-use Rattle.sx_walk.specs.Renumbering.{is_listed, is_touched, SayButNumber, Grows, Renumbers, HoldsAt}
+use Rattle.sx_base.specs.declared.role.Role.TheVariants.{Overflow}
+use Rattle.sx_refs.specs.Targets.{linked, target}
+use Rattle.sx_walk.specs.Renumbering.{is_listed, is_touched, IsRuled, SayButNumber, Grows, Renumbers, HoldsAt}
 use Rattle.sx_walk.proofs.Renumbering.{left_by}
 
 -- ---- ranks that are listed
@@ -129,6 +131,20 @@ pub holds_more : (view : ℕ → Option (List ℕ)) (usable : ℕ) (numbers rank
     → (page : ℕ) → is_touched numbers (take (i + 1) ranks) page ≡ true → HoldsAt view usable table page
 holds_more view usable numbers ranks i table within old new page there =
     hold_case view usable numbers ranks i page table (rank_of numbers page) within refl there (old page) (new page)
+
+-- the page that a link names
+abbrev HasRule : Table → ℕ → Target → Type 0
+HasRule table body target = IsRuled table body target.pair.page
+
+link_case : (table : Table) (body page link : ℕ) (b : Bool) → (link == 0) ≡ b → ((link ≡ 0) ⊎ IsRuled table body link)
+    → All (HasRule table body) (if b then [] else target link Overflow (Page page) 0 ∷ [])
+link_case table body page link true is fits = All-nil (HasRule table body)
+link_case table body page link false is (inl none) = absurd (false≢true (sym is ∙ eq-eqb link 0 none))
+link_case table body page link false is (inr fits) = All-cons (HasRule table body) (target link Overflow (Page page) 0) [] fits (All-nil (HasRule table body))
+
+pub behind_ruled : (table : Table) (body page link : ℕ) → (link ≡ 0) ⊎ IsRuled table body link → All (λ target. IsRuled table body target.pair.page) (linked link Overflow (Page page))
+unfolding linked
+behind_ruled table body page link fits = link_case table body page link (link == 0) refl fits
 
 -- ---- the table in the words of its references
 

@@ -5,6 +5,7 @@ mod anew;
 mod exchange;
 mod gather;
 mod missing;
+mod once;
 mod renew;
 mod renumber;
 mod steady;

@@ -3,10 +3,12 @@ ghost use Rattle.std.specs.Prelude.{◌≡◌, ◌≢◌, ℕ, ◌≤◌, Some, 
 ghost use Rattle.std.specs.List.{All};
 ghost use Rattle.sx_closure.specs.Graph.{Rises};
 ghost use Rattle.sx_closure.specs.Chains.{is_overflow};
+ghost use Rattle.sx_base.specs.declared.role.Role.TheVariants.{Overflow as OverflowRole};
+ghost use Rattle.sx_closure.specs.declared.pair.Source.TheVariants.{Page as PageSource};
+ghost use Rattle.sx_refs.specs.Targets.{linked};
 ghost use Rattle.sx_walk.specs.Renumbering.{is_touched, SayButNumber, Grows, Renumbers, IsRuled, GoesOn, HoldsAt, IsRenumbered};
 
-use crate::exchange::names_of;
-use std::alloc::{AllocError, Global};
+use std::alloc::AllocError;
 use sx_base::{Pages, Role};
 use sx_bytes::be32;
 use sx_closure::{Pair, RefTable, Source, Target, rank_of};
@@ -216,73 +218,53 @@ fn goes_on(table: &RefTable, no: u32) -> bool
     }
 }
 
-/// Whether each of the pages that these targets name has the number that its one reference gives it, if it is an overflow page.
-fn all_ruled(table: &RefTable, targets: &[Target], body: u32) -> bool
-    ensures { IsTrue result → All (λ target. IsRuled table.now body target.pair.page) targets.now }
+/// Whether the page that a link names has the number that its one reference gives it, if it is an overflow page; 0 names none.
+fn is_link_ruled(table: &RefTable, no: u32, link: u32, body: u32) -> bool
+    ensures { IsTrue result → All (λ target. IsRuled table.now body target.pair.page) (linked link OverflowRole (PageSource no)) }
 {
-    for target in targets {
-        if !is_ruled(table, target.pair.page, body) {
-            return false;
-        }
-    }
-    true
+    link == 0 || is_ruled(table, link, body)
 }
 
-/// Whether the numbers of a page and of those that its view names as an overflow page fit.
-fn holds_at<'a, P: Pages<'a>>(
-    alloc: Global,
-    table: &RefTable,
-    pages: &P,
-    usable: u32,
-    no: u32,
-) -> Result<bool, AllocError>
+/// Whether the numbers of a page and of that which its view names as an overflow page fit.
+#[tactic(auto, unfolding(sx_refs::specs::Targets::targets_of))]
+fn holds_at<'a, P: Pages<'a>>(table: &RefTable, pages: &P, usable: u32, no: u32) -> bool
     requires least { 480 ≤ usable }
     requires within { usable ≤ P.page_size pages.now }
-    requires small { P.page_size pages.now ≤ 65536 }
-    ensures { IfOk result (λ holds. IsTrue holds → HoldsAt (P.view pages.now) usable table.now no) }
+    ensures { IsTrue result → HoldsAt (P.view pages.now) usable table.now no }
 {
     let body = usable - 4;
     if !is_ruled(table, no, body) || !goes_on(table, no) {
-        return Ok(false);
+        return false;
     }
     // That the pages have a size says how long their views are.
     let _size = pages.size();
     match pages.page(no) {
-        Some(bytes) => {
-            let pair = Pair {
-                page: no,
-                role: Role::Overflow,
-            };
-            let names = names_of(alloc, usable, pair, bytes)?;
-            Ok(all_ruled(table, names.as_slice(), body))
-        }
-        None => Ok(true),
+        Some(bytes) => is_link_ruled(table, no, be32(bytes, 0), body),
+        None => true,
     }
 }
 
 /// Whether the numbers of all pages of these ranks fit. What is no rank is passed over.
 fn all_hold<'a, P: Pages<'a>>(
-    alloc: Global,
     table: &RefTable,
     pages: &P,
     numbers: &[u32],
     touched: &[u32],
     usable: u32,
-) -> Result<bool, AllocError>
+) -> bool
     requires rises { Rises numbers.now }
     requires least { 480 ≤ usable }
     requires within { usable ≤ P.page_size pages.now }
-    requires small { P.page_size pages.now ≤ 65536 }
-    ensures { IfOk result (λ hold. IsTrue hold → (page : ℕ) → is_touched numbers.now touched.now page ≡ true → HoldsAt (P.view pages.now) usable table.now page) }
+    ensures { IsTrue result → (page : ℕ) → is_touched numbers.now touched.now page ≡ true → HoldsAt (P.view pages.now) usable table.now page }
 {
     for rank in touched {
         if let Some(no) = numbers.get(*rank as usize) {
-            if !holds_at(alloc, table, pages, usable, *no)? {
-                return Ok(false);
+            if !holds_at(table, pages, usable, *no) {
+                return false;
             }
         }
     }
-    Ok(true)
+    true
 }
 
 /// Numbers the pages of the listed ranks anew, and what follows them as long as it had another number, and lists that too; and
@@ -292,7 +274,6 @@ fn all_hold<'a, P: Pages<'a>>(
 /// They fit but where a chain goes on past its payload, or where too many pages are come by too often. The cost is a few
 /// look-ups for each rank that is listed then. It answers `AllocError` where memory runs out.
 pub(crate) fn renumber<'a, P: Pages<'a>>(
-    alloc: Global,
     table: &mut RefTable,
     pages: &P,
     numbers: &[u32],
@@ -302,7 +283,6 @@ pub(crate) fn renumber<'a, P: Pages<'a>>(
     requires rises { Rises numbers.now }
     requires least { 480 ≤ usable }
     requires within { usable ≤ P.page_size pages.now }
-    requires small { P.page_size pages.now ≤ 65536 }
     ensures grows { IfOk result (λ _. Grows touched.old.items touched.new.items) }
     ensures fit { IfOk result (λ fit. IsTrue fit → IsRenumbered (P.view pages.now) usable numbers.now touched.new.items table.old table.new) }
 {
@@ -310,6 +290,5 @@ pub(crate) fn renumber<'a, P: Pages<'a>>(
     let mut steps = numbers.len() as u64;
     number_listed(table, pages, numbers, body, touched, true, &mut steps)?;
     number_listed(table, pages, numbers, body, touched, false, &mut steps)?;
-    let fit = all_hold(alloc, table, pages, numbers, touched, usable)?;
-    Ok(fit)
+    Ok(all_hold(table, pages, numbers, touched, usable))
 }

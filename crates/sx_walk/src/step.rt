@@ -108,7 +108,7 @@ pub(crate) fn follow_step<'a, P: Pages<'a>>(
         Some(touched) => touched,
         None => return Ok(None),
     };
-    if !renumber(alloc, table, pages, numbers, &mut touched, layout.usable)? {
+    if !renumber(table, pages, numbers, &mut touched, layout.usable)? {
         return Ok(None);
     }
     Ok(Some(Step {

@@ -90,10 +90,11 @@ fn stands<'a>(
 }
 
 /// Of how many of five pages the table may say something else at the second of two moments than at the first, to which the
-/// walk has gone by a step.
+/// walk has gone by a step. It is begun so that steps can be followed, or not.
 fn walked<'a>(
     rt: &impl Abort,
     alloc: Global,
+    follows: bool,
     first: &[&'a [u8]],
     second: &[&'a [u8]],
 ) -> Result<Option<usize>, Fail> {
@@ -107,13 +108,15 @@ fn walked<'a>(
         &[1, 2, 3, 4, 5],
         &layout,
         &[2],
+        follows,
     )?;
     assert_eq!(rt; stands(rt, alloc, &walk, first, &[2])?, None);
     // nothing is counted where nothing is named otherwise
     walk.advance(&Sheets::new(512, first), &[0, 1, 2, 3, 4], &layout, &[2])?;
     assert_eq!(rt; stands(rt, alloc, &walk, first, &[2])?, Some(0));
     walk.advance(&Sheets::new(512, first), &[0, 1, 2, 3, 4], &layout, &[2, 3])?;
-    assert_eq!(rt; stands(rt, alloc, &walk, first, &[2, 3])?, None);
+    let touched = stands(rt, alloc, &walk, first, &[2, 3])?;
+    assert_eq!(rt; touched.is_some(), follows);
     walk.advance(
         &Sheets::new(512, second),
         &[0, 1, 2, 3, 4],
@@ -135,13 +138,13 @@ fn a_walk_goes_on_with_the_pages_that_changed(rt: HostRuntime) -> Result<(), Fai
     let after: [&[u8]; 5] = [&head, &last, &moved, &leaf, &leaf];
     let written: [&[u8]; 5] = [&head, &last, &moved, &other, &leaf];
     // a leaf moves from one interior page to the other, and then bytes change that name nothing
-    assert_eq!(rt; walked(&rt, alloc, &before, &after)?, Some(2));
-    assert_eq!(rt; walked(&rt, alloc, &after, &written)?, Some(0));
+    assert_eq!(rt; walked(&rt, alloc, false, &before, &after)?, Some(2));
+    assert_eq!(rt; walked(&rt, alloc, true, &after, &written)?, Some(0));
     // two interior pages that name each other have lost their root
     let (one, two) = (interior(&rt, 0, 5), interior(&rt, 0, 4));
     let circle: [&[u8]; 5] = [&head, &both, &none, &one, &two];
     let lost: [&[u8]; 5] = [&head, &none, &none, &one, &two];
-    assert_eq!(rt; walked(&rt, alloc, &circle, &lost)?, None);
+    assert_eq!(rt; walked(&rt, alloc, false, &circle, &lost)?, None);
     Ok(())
 }
 
@@ -154,6 +157,6 @@ fn a_walk_numbers_the_pages_of_another_chain(rt: HostRuntime) -> Result<(), Fail
     let before: [&[u8]; 5] = [&head, &some, &leaf, &fifth, &end];
     let after: [&[u8]; 5] = [&head, &other, &leaf, &end, &fourth];
     // the page behind the first is listed twice
-    assert_eq!(rt; walked(&rt, alloc, &before, &after)?, Some(3));
+    assert_eq!(rt; walked(&rt, alloc, true, &before, &after)?, Some(3));
     Ok(())
 }

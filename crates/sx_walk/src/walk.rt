@@ -12,8 +12,8 @@ ghost use Rattle.sx_walk.specs.Renewing.{unsaid_count};
 ghost use Rattle.sx_walk.specs.Steady.{IsStanding, IfStanding};
 ghost use Rattle.sx_walk.specs.Stepping.{HasStepped};
 
-use crate::anew::count_anew;
 use crate::missing::Missing;
+use crate::once::count;
 use crate::steady::all_steady;
 use crate::step::{Step, follow_step};
 use std::alloc::{AllocError, Global};
@@ -61,14 +61,17 @@ impl<'a> RefWalk<'a> {
     /// Counts what refers to each page of the first moment, as [`references`](sx_refs::references) does.
     ///
     /// The numbers rise, and each page with a view is among them. The cost is that of [`references`](sx_refs::references) and a
-    /// look at each number; 20 bytes a number and the roots are taken besides, and 128 bytes a number once a step can be
-    /// followed. It answers `AllocError` where memory runs out.
+    /// few look-ups for each number; 20 bytes a number and the roots are taken besides. Where `follows` says that another moment
+    /// is to come, what following it needs is counted too, at the same cost but where a chain goes on past its payload, and 128
+    /// bytes a number are taken; else that is done at the first step that needs it. It answers `AllocError` where memory runs
+    /// out.
     pub fn start<P: Pages<'a>>(
         alloc: Global,
         pages: &P,
         numbers: &[u32],
         layout: &Layout,
         roots: &[i64],
+        follows: bool,
     ) -> Result<Self, AllocError>
         requires rise { Rises numbers.now }
         requires covered { Covers numbers.now (P.view pages.now) }
@@ -79,6 +82,9 @@ impl<'a> RefWalk<'a> {
         ensures numbers { IfOk result (λ walk. walk.numbers ≡ numbers.now) }
         ensures stands { IfOk result (StandsAt (P.view pages.now) (graph_of (P.pages pages.now) (P.view pages.now) layout.now roots.now) (layout.now.usable - 4)) }
     {
+        if follows && is_few(numbers) {
+            return RefWalk::start_followed(alloc, pages, numbers, layout, roots);
+        }
         let size = pages.size();
         let views = views_of(alloc, pages, numbers)?;
         let table = references(alloc, pages, layout, roots)?;
@@ -98,6 +104,43 @@ impl<'a> RefWalk<'a> {
         })
     }
 
+    /// Counts what refers to each page of the first moment, so that the next can be followed.
+    fn start_followed<P: Pages<'a>>(
+        alloc: Global,
+        pages: &P,
+        numbers: &[u32],
+        layout: &Layout,
+        roots: &[i64],
+    ) -> Result<Self, AllocError>
+        requires rise { Rises numbers.now }
+        requires few { length numbers.now < 2 ^ 32 }
+        requires covered { Covers numbers.now (P.view pages.now) }
+        requires page_size { 0 < layout.now.page_size }
+        requires least { 480 ≤ layout.now.usable }
+        requires within { layout.now.usable ≤ P.page_size pages.now }
+        requires small { P.page_size pages.now ≤ 65536 }
+        ensures numbers { IfOk result (λ walk. walk.numbers ≡ numbers.now) }
+        ensures stands { IfOk result (StandsAt (P.view pages.now) (graph_of (P.pages pages.now) (P.view pages.now) layout.now roots.now) (layout.now.usable - 4)) }
+    {
+        let size = pages.size();
+        let views = views_of(alloc, pages, numbers)?;
+        let counted = count(alloc, pages, numbers, layout, roots)?;
+        let numbers = numbers.to_vec(alloc)?;
+        let setting = Setting::new(alloc, size, layout, roots)?;
+        Ok(RefWalk {
+            alloc,
+            numbers,
+            views,
+            setting,
+            table: counted.table,
+            stands: true,
+            sums: Some(counted.sums),
+            trail: counted.roots,
+            missing: counted.missing,
+            touched: None,
+        })
+    }
+
     /// Goes to the next moment.
     ///
     /// Each page with a view is among the numbers; `changed` has ranks, and a page whose rank isn't there has the view
@@ -107,12 +150,12 @@ impl<'a> RefWalk<'a> {
     /// of single ones from a root, and no chain that changed goes on past its payload, the table is followed, also where pages
     /// come into view or go out of it: the cost is that of reading the changed pages twice, and of a few look-ups for each
     /// reference that comes or goes and for each page behind it in a chain. Else it is that of
-    /// [`references`](sx_refs::references) and a look at each changed page; and twice that of the first where the page size and
-    /// the usable bytes are the same, as at the first such step behind another: then the references are counted a second time,
-    /// so that the next step can follow them. But as long as there is nothing to follow, nothing is counted where the size, the
-    /// layout and the roots are the same, and each changed page is held as before and names what it named, in each role in which
-    /// it may be reached: the table stands, at the cost of reading the changed pages twice. Where it answers `AllocError`, for
-    /// want of memory, nothing more is said of the walk but that it goes on.
+    /// [`references`](sx_refs::references) and a look at each changed page. Where the page size and the usable bytes are the
+    /// same, what following the next step needs is counted with it, and twice that cost is added where a chain goes on past its
+    /// payload. But as long as there is nothing to follow, nothing is counted where the size, the layout and the roots are the
+    /// same, and each changed page is held as before and names what it named, in each role in which it may be reached: the table
+    /// stands, at the cost of reading the changed pages twice. Where it answers `AllocError`, for want of memory, nothing more is
+    /// said of the walk but that it goes on.
     pub fn advance<P: Pages<'a>>(
         &mut self,
         pages: &P,
@@ -177,7 +220,7 @@ impl<'a> RefWalk<'a> {
         }
         self.touched = None;
         if fits {
-            let counted = count_anew(self.alloc, pages, &self.numbers, layout, roots)?;
+            let counted = count(self.alloc, pages, &self.numbers, layout, roots)?;
             self.table = counted.table;
             self.sums = Some(counted.sums);
             self.trail = counted.roots;

@@ -10,5 +10,5 @@ returns-clause-fit g c = λ fit. record {
       c.in_ok-number_listed-2.ensures.grows c.in_ok-number_listed.ensures.renumbers c.in_ok-number_listed-2.ensures.renumbers;
   holds =
       subst (λ (ranks : List ℕ). (page : ℕ) → is_touched c.args.numbers.now ranks page ≡ true → HoldsAt (g.P.PageViews.view c.args.pages.now) c.args.usable c.number_listed-2.new.table page) c.deref.ensures.value
-      (c.in_ok-fit.ensures fit);
+      (c.all_hold.ensures fit);
 }

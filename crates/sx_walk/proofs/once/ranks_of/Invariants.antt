@@ -1,0 +1,7 @@
+use Rattle.std.proofs.Common.{◌≡◌}
+use Rattle.std.specs.List.{range_with_len}
+use Rattle.sx_walk.proofs.once.ranks_of.Given as goal
+
+-- the ranks so far stand there
+abbrev pub invariant-loop-rank : goal.invariant-loop-rank
+invariant-loop-rank l = l.ranks.items ≡ range_with_len 0 l.rank
