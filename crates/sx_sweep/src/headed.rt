@@ -55,8 +55,7 @@ fn go_over_first<'a>(
     ensures { IfOk result (GoesOver sweep.now.case sweep.now.moment sweep.now.numbers layout.now roots.now images.now known.old.owned known.new.owned known.new.sums) }
 {
     let numbers = sweep.numbers();
-    let follows = sweep.snapshot().case.moments() > 1;
-    let walk = RefWalk::start(alloc, sweep, numbers, layout, roots, follows)?;
+    let walk = RefWalk::start(alloc, sweep, numbers, layout, roots, known.several)?;
     let scene = Scene {
         sweep,
         table: walk.table(),

@@ -8,4 +8,6 @@ use sx_sums::Sums;
 pub struct Known {
     pub owned: OwnedRuns,
     pub sums: Sums,
+    /// Whether there are several moments, so that it pays to follow the references from the first on.
+    pub several: bool,
 }

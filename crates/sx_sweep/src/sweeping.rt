@@ -63,7 +63,8 @@ pub fn sweep_all(alloc: Global, case: &Case<'_>, images: &ImageTable) -> Result<
     ensures totals { IfOk result (λ swept. swept.totals.items ≡ map (totals_at case.now) (moments_of case.now)) }
 {
     let mut sweep = case.sweep(alloc)?;
-    let mut pass = nothing_known(alloc, images, sweep.ranks())?;
+    let several = case.moments() > 1;
+    let mut pass = nothing_known(alloc, images, sweep.ranks(), several)?;
     add_moments(alloc, &mut sweep, images, &mut pass)?;
     let Pass { known, totals, .. } = pass;
     let Known { owned, .. } = known;
@@ -71,7 +72,12 @@ pub fn sweep_all(alloc: Global, case: &Case<'_>, images: &ImageTable) -> Result<
 }
 
 /// What is known before the first moment: nothing.
-fn nothing_known(alloc: Global, images: &ImageTable, ranks: u32) -> Result<Pass, AllocError>
+fn nothing_known(
+    alloc: Global,
+    images: &ImageTable,
+    ranks: u32,
+    several: bool,
+) -> Result<Pass, AllocError>
     ensures fresh { IfOk result (λ pass. IsFresh pass.known.owned (length (images_of images.now)) images.now.page_size) }
     ensures sums { IfOk result (λ pass. pass.known.sums ≡ replicate ranks (record { last = None; shown = false })) }
     ensures totals { IfOk result (λ pass. pass.totals.items ≡ []) }
@@ -79,7 +85,11 @@ fn nothing_known(alloc: Global, images: &ImageTable, ranks: u32) -> Result<Pass,
     let owned = OwnedRuns::fresh(alloc, images.count(), images.page_size())?;
     let sums = Sums::fresh(alloc, ranks)?;
     Ok(Pass {
-        known: Known { owned, sums },
+        known: Known {
+            owned,
+            sums,
+            several,
+        },
         usable: 0,
         totals: Vec::new(alloc),
     })
