@@ -1,5 +1,5 @@
 -- The lines of moments, one after the other.
-use Rattle.std.proofs.Common.{◌≡◌, ◌≢◌, ℕ, ℤ, suc, ◌+◌, ◌≤◌, Bool, true, false, List, [], ◌∷◌, ◌++◌, Some, Result, Ok, Err, length, drop, refl, sym, ap, ◌∙◌, arith, add-one, drop-cons, length-append}
+use Rattle.std.proofs.Common.{◌≡◌, ◌≢◌, ℕ, ℤ, suc, ◌+◌, ◌≤◌, Bool, true, false, List, [], ◌∷◌, ◌++◌, Some, Result, Ok, Err, length, drop, refl, sym, ap, subst, ◌∙◌, arith, add-one, drop-cons, length-append}
 use Rattle.std.specs.Prelude.{slice_get}
 use Rattle.std.specs.List.{flat_map}
 use Rattle.std.proofs.lemmas.List.{drop_all}
@@ -7,7 +7,9 @@ use Rattle.std.proofs.lemmas.List.Concat.{flat_map-cons}
 use Rattle.std.proofs.lemmas.Option.{slice_get_within, get_or_from_slice_get}
 use Rattle.sx_base.specs.declared.moment.Moment.{Moment}
 use Rattle.sx_lines.specs.Lines.{IsNextLine}
-use Rattle.sx_moment.specs.Gathered.{Gathered}
+use Rattle.sx_moment.specs.Gathered.{Gathered, moments_of}
+use Rattle.sx_moment.specs.Sweep.{GoesOn}
+use Rattle.sx_history_text.specs.Trees.{Tracked}
 use Rattle.sx_app.specs.Histories.{history_at, history_by, table_there}
 use Rattle.sx_app.specs.Owed.{Fails}
 use Rattle.sx_app.specs.Tables.{Table, MayLack}
@@ -27,7 +29,7 @@ some_by case moment rowid (Ok table) = omega (arith, length-append {A = List ℕ
 some_by case moment rowid (Err refused) = omega arith
 
 -- each moment has a line
-pub history_some : (case : Gathered) (name : List ℕ) (rowid : ℤ) (moment : Moment) → 1 ≤ length (history_at case name rowid moment)
+history_some : (case : Gathered) (name : List ℕ) (rowid : ℤ) (moment : Moment) → 1 ≤ length (history_at case name rowid moment)
 unfolding history_at
 history_some case name rowid moment = some_by case moment rowid (table_there case moment name)
 
@@ -39,6 +41,11 @@ first_there make moments place moment is =
     ∙ ap (λ one. one ∷ drop (suc place) moments) (get_or_from_slice_get moments place moment moment is)
     ∙ ap (λ n. moment ∷ drop n moments) (sym (add-one place)))
     ∙ flat_map-cons make moment (drop (place + 1) moments)
+
+-- with the lines of the first moment all are there
+pub all_there : (make : Moment → List (List ℕ)) (moments : List Moment) (moment : Moment) (current : List (List ℕ)) → slice_get moments 0 ≡ Some moment → current ≡ make moment
+    → current ++ flat_map make (drop 1 moments) ≡ flat_map make moments
+all_there make moments moment current is made = ap (λ l. l ++ flat_map make (drop 1 moments)) made ∙ sym (first_there make moments 0 moment is)
 
 -- a line of the moment in hand was taken
 pub here_next : (current now rest : List (List ℕ)) (line : List ℕ) → IsNextLine current now line true → IsNextLine (current ++ rest) (now ++ rest) line true
@@ -54,7 +61,7 @@ none_some : (lines : List (List ℕ)) → 1 ≤ length lines → lines ≡ [] �
 none_some lines some none = omega (arith, some, ap length none)
 
 -- the first line of the next moment was taken
-pub later_next : (make : Moment → List (List ℕ)) (moments : List Moment) (place : ℕ) (moment : Moment) (current first now : List (List ℕ)) (line : List ℕ) (more : Bool)
+later_next : (make : Moment → List (List ℕ)) (moments : List Moment) (place : ℕ) (moment : Moment) (current first now : List (List ℕ)) (line : List ℕ) (more : Bool)
     → current ≡ [] → slice_get moments place ≡ Some moment → first ≡ make moment → 1 ≤ length (make moment) → IsNextLine first now line more
     → IsNextLine (current ++ flat_map make (drop place moments)) (now ++ flat_map make (drop (place + 1) moments)) line more
 later_next make moments place moment current first now line true none is made some next =
@@ -68,3 +75,30 @@ later_next make moments place moment current first now line true none is made so
     )
 later_next make moments place moment current first now line false none is made some next =
     absurd (none_some (make moment) some (sym made ∙ next))
+
+-- the lines of the moments behind the one in hand
+abbrev behind : List ℕ → Tracked → List (List ℕ)
+behind name it = flat_map (history_at it.swept.case name it.rowid) (drop (it.swept.place + 1) (moments_of it.swept.case))
+
+-- the first line of the moment that was gone to was taken
+pub goes_next : (name : List ℕ) (before moved now : Tracked) (current first taken : List (List ℕ)) (line : List ℕ) (more : Bool)
+    → GoesOn before.swept moved.swept → moved.rowid ≡ before.rowid
+    → now.swept.case ≡ moved.swept.case → now.swept.place ≡ moved.swept.place → now.rowid ≡ moved.rowid
+    → current ≡ [] → slice_get (moments_of moved.swept.case) moved.swept.place ≡ Some moved.swept.moment
+    → first ≡ history_at moved.swept.case name moved.rowid moved.swept.moment → IsNextLine first taken line more
+    → IsNextLine (current ++ behind name before) (taken ++ behind name now) line more
+goes_next name before moved now current first taken line more on rowid now_case now_place now_rowid none is made next =
+    let make = history_at moved.swept.case name moved.rowid in
+    let moments = moments_of moved.swept.case in
+    let there = later_next make moments moved.swept.place moved.swept.moment current first taken line more none is made
+    (history_some moved.swept.case name moved.rowid moved.swept.moment) next in
+    let old : flat_map make (drop moved.swept.place moments) ≡ behind name before =
+    ap (λ n. flat_map make (drop n moments)) on.place
+    ∙ ap (λ r. flat_map (history_at moved.swept.case name r) (drop (before.swept.place + 1) moments)) rowid
+    ∙ ap (λ c. flat_map (history_at c name before.rowid) (drop (before.swept.place + 1) (moments_of c))) on.case in
+    let new : flat_map make (drop (moved.swept.place + 1) moments) ≡ behind name now =
+    ap (λ n. flat_map make (drop (n + 1) moments)) (sym now_place)
+    ∙ ap (λ r. flat_map (history_at moved.swept.case name r) (drop (now.swept.place + 1) moments)) (sym now_rowid)
+    ∙ ap (λ c. flat_map (history_at c name now.rowid) (drop (now.swept.place + 1) (moments_of c))) (sym now_case) in
+    subst (λ rest. IsNextLine (current ++ rest) (taken ++ behind name now) line more) old
+    (subst (λ rest. IsNextLine (current ++ flat_map make (drop moved.swept.place moments)) (taken ++ rest) line more) new there)

@@ -1,5 +1,5 @@
 -- How far the writing of `history` has come: the lines of the moment in hand, and the moments behind it.
-use Rattle.std.specs.Prelude.{ℕ, List, ◌++◌, drop}
+use Rattle.std.specs.Prelude.{ℕ, ◌+◌, List, ◌++◌, drop}
 use Rattle.std.specs.List.{flat_map}
 use Rattle.sx_moment.specs.Gathered.{moments_of}
 use Rattle.sx_history_text.specs.Moments.{moment_rest}
@@ -9,4 +9,4 @@ use Rattle.sx_app.specs.declared.histories.HistoryLines.{HistoryLines}
 abbrev pub histories_rest : HistoryLines → List (List ℕ)
 histories_rest rest =
     moment_rest rest.current
-    ++ flat_map (history_at rest.case.now rest.table.now rest.rowid) (drop rest.next (moments_of rest.case.now))
+    ++ flat_map (history_at rest.trees.swept.case rest.table.now rest.trees.rowid) (drop (rest.trees.swept.place + 1) (moments_of rest.trees.swept.case))

@@ -15,7 +15,7 @@ ghost use Rattle.sx_app.specs.Stages.{MayMeet, Deciding};
 use crate::carving::{Carving, carve_lines, latest, prepare, spill_lines};
 use crate::finish::{finish, finish_line};
 use crate::generations::generations_lines;
-use crate::histories::HistoryLines;
+use crate::histories::history_lines;
 use crate::labels::{explain_lines, headless_lines, images_in, map_lines, roots_at};
 use crate::moments::{moment_meant, snapshot_asked};
 use crate::refused::Refused;
@@ -67,10 +67,12 @@ pub fn answer_question<W: Sink>(
         Question::Carve { at, spill } => answer_carve(alloc, question, case, *at, *spill, out),
         Question::Explain { place, at } => answer_explain(alloc, question, case, *place, *at, out),
         Question::Generations => finish(alloc, question, generations_lines(alloc, case), out),
-        Question::History { table, rowid } => {
-            let lines = HistoryLines::new(alloc, case, table, *rowid);
-            finish(alloc, question, Ok(lines), out)
-        }
+        Question::History { table, rowid } => finish(
+            alloc,
+            question,
+            history_lines(alloc, case, table, *rowid),
+            out,
+        ),
         Question::Report => finish_line(alloc, question, report_line(alloc, case), out),
     }
 }

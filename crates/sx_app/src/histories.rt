@@ -1,15 +1,17 @@
 //! The lines of `history`.
-ghost use Rattle.std.specs.Prelude.{◌≡◌, ◌≢◌, IsTrue, IfOk, IfErr, OnOk};
+ghost use Rattle.std.specs.Prelude.{◌≡◌, ◌≢◌, Ok, IfOk, IfErr, OnOk};
 ghost use Rattle.std.specs.Option.{option_map};
 ghost use Rattle.sx_history_text.specs.Histories.{row_lines};
 ghost use Rattle.sx_history_text.specs.Moments.{moment_rest};
-ghost use Rattle.sx_moment.specs.Gathered.{is_moment, size_at};
+ghost use Rattle.sx_moment.specs.Gathered.{size_at};
 ghost use Rattle.sx_moment.specs.Heads.{encoding_at, layout_of};
 ghost use Rattle.sx_moment.specs.Views.{view_of};
+ghost use Rattle.sx_words.specs.Words as words;
 ghost use Rattle.sx_app.specs.GivenTables.{table_by};
 ghost use Rattle.sx_app.specs.Histories.{histories_of, history_at, lack_of, table_there};
 ghost use Rattle.sx_app.specs.HistoryRest.{histories_rest};
 ghost use Rattle.sx_app.specs.Owed.{Gives};
+ghost use Rattle.sx_app.specs.Stages.{MayMeet, Deciding};
 ghost use Rattle.sx_app.specs.Tables.{MayLack};
 ghost use Rattle.sx_app.specs.declared.refused.Refused.TheVariants.{Memory};
 
@@ -17,46 +19,58 @@ use crate::refused::Refused;
 use crate::tables::{Table, table_named};
 use std::alloc::{AllocError, Global};
 use sx_base::Moment;
-use sx_history_text::{Lack, MomentLines, RowLines};
+use sx_history_text::{Lack, MomentLines, RowLines, TreeHistories};
 use sx_lines::Lines;
 use sx_moment::{Case, Snapshot};
 
 /// The lines of `history` that are still to come, moment by moment.
 ///
-/// Each moment is read anew: its schema, its table's text and its table's tree.
+/// At each moment the schema and the table's text are read anew; the table's tree is walked anew only where what is kept of the
+/// moment before doesn't show that it says the same of the rowid.
 #[derive(Drop)]
 pub struct HistoryLines<'t, 'c, 'a> {
     alloc: Global,
-    case: &'c Case<'a>,
     table: &'t str,
-    rowid: i64,
-    next: u32,
+    trees: TreeHistories<'c, 'a>,
     current: MomentLines<'c, 'a>,
 }
 
 impl<'t, 'c, 'a> HistoryLines<'t, 'c, 'a> {
-    /// All lines under the name of a table and a rowid.
-    #[tactic(auto, unfolding(crate::specs::Histories::histories_of))]
-    pub fn new(alloc: Global, case: &'c Case<'a>, table: &'t str, rowid: i64) -> Self
-        ensures { histories_rest result ≡ histories_of case.entry.now table.entry.now rowid }
+    /// All lines under the name of a table and a rowid. It looks at the first moment, and answers `AllocError` where memory runs
+    /// out.
+    #[tactic(auto, unfolding(crate::specs::Histories::histories_of), using(crate::proofs::AllMoments::all_there))]
+    fn new(
+        alloc: Global,
+        case: &'c Case<'a>,
+        table: &'t str,
+        rowid: i64,
+    ) -> Result<Self, AllocError>
+        ensures { IfOk result (λ lines. histories_rest lines ≡ histories_of case.entry.now table.entry.now rowid) }
     {
-        HistoryLines {
+        let mut trees = TreeHistories::new(alloc, case, rowid)?;
+        let _moment = trees.moment();
+        let current = moment_lines(alloc, &mut trees, table)?;
+        Ok(HistoryLines {
             alloc,
-            case,
             table,
-            rowid,
-            next: 0,
-            current: MomentLines::End,
-        }
+            trees,
+            current,
+        })
     }
+}
 
-    /// The lines of a moment of the evidence.
-    fn lines_at(&self, moment: Moment) -> Result<MomentLines<'c, 'a>, AllocError>
-        requires { IsTrue (is_moment self.now.case.now moment) }
-        ensures { IfOk result (λ lines. moment_rest lines ≡ history_at self.now.case.now self.now.table.now self.now.rowid moment) }
-    {
-        moment_lines(self.alloc, self.case, self.table, self.rowid, moment)
-    }
+/// The lines of `history` under the name of a table and a rowid. The first moment is looked at before a line is written.
+pub fn history_lines<'t, 'c, 'a>(
+    alloc: Global,
+    case: &'c Case<'a>,
+    table: &'t str,
+    rowid: i64,
+) -> Result<HistoryLines<'t, 'c, 'a>, Refused>
+    ensures told { Gives histories_rest result (Ok (histories_of case.entry.now table.entry.now rowid)) }
+    ensures may { IfErr result (MayMeet (Deciding (words.History table.entry.now rowid))) }
+{
+    let lines = HistoryLines::new(alloc, case, table, rowid)?;
+    Ok(lines)
 }
 
 impl Lines for HistoryLines<'_, '_, '_> {
@@ -66,34 +80,32 @@ impl Lines for HistoryLines<'_, '_, '_> {
         if self.current.next_line(line)? {
             return Ok(true);
         }
-        if self.next >= self.case.moments() {
+        if !self.trees.next() {
             return Ok(false);
         }
-        let moment = self.case.moment(self.next);
-        self.current = self.lines_at(moment)?;
-        self.next += 1;
+        let _moment = self.trees.moment();
+        self.current = moment_lines(self.alloc, &mut self.trees, self.table)?;
         let more = self.current.next_line(line)?;
         Ok(more)
     }
 }
 
-/// The lines of a moment of the evidence.
+/// The lines of the moment in hand.
 #[tactic(auto, unfolding(crate::specs::Histories::history_at), using(crate::proofs::AllMoments::lacks_it))]
 fn moment_lines<'c, 'a>(
     alloc: Global,
-    case: &'c Case<'a>,
+    trees: &mut TreeHistories<'c, 'a>,
     table: &str,
-    rowid: i64,
-    moment: Moment,
 ) -> Result<MomentLines<'c, 'a>, AllocError>
-    requires { IsTrue (is_moment case.now moment) }
-    ensures { IfOk result (λ lines. moment_rest lines ≡ history_at case.entry.now table.now rowid moment) }
+    ensures lines { IfOk result (λ lines. moment_rest lines ≡ history_at trees.old.swept.case table.now trees.old.rowid trees.old.swept.moment) }
+    ensures case { trees.new.swept.case ≡ trees.old.swept.case }
+    ensures place { trees.new.swept.place ≡ trees.old.swept.place }
+    ensures rowid { trees.new.rowid ≡ trees.old.rowid }
 {
-    let Some(snapshot) = case.snapshot(moment) else {
-        unreachable!()
-    };
+    let snapshot = trees.snapshot();
+    let moment = trees.moment();
     match table_there(alloc, &snapshot, moment, table) {
-        Ok(table) => rows_of_table(alloc, snapshot, moment, table, rowid),
+        Ok(table) => rows_of_table(alloc, trees, table),
         Err(refused) => {
             let lack = lack_of(refused)?;
             Ok(MomentLines::Lacking { moment, lack })
@@ -133,28 +145,30 @@ fn lack_of(refused: Refused) -> Result<Lack, AllocError>
     }
 }
 
-/// The lines of a table at a moment.
+/// The lines of a table at the moment in hand.
 fn rows_of_table<'c, 'a>(
     alloc: Global,
-    snapshot: Snapshot<'c, 'a>,
-    moment: Moment,
+    trees: &mut TreeHistories<'c, 'a>,
     table: Table,
-    rowid: i64,
 ) -> Result<MomentLines<'c, 'a>, AllocError>
-    requires { moment ≡ snapshot.moment }
-    ensures { IfOk result (λ lines. moment_rest lines ≡ row_lines moment (size_at snapshot.entry.case.now snapshot.entry.moment) (view_of snapshot.entry.case.now snapshot.entry.moment) (layout_of snapshot.entry.case.now snapshot.entry.moment).usable (encoding_at snapshot.entry.case.now snapshot.entry.moment) (table_by table).root (table_by table).columns rowid) }
+    ensures lines { IfOk result (λ lines. moment_rest lines ≡ row_lines trees.old.swept.moment (size_at trees.old.swept.case trees.old.swept.moment) (view_of trees.old.swept.case trees.old.swept.moment) (layout_of trees.old.swept.case trees.old.swept.moment).usable (encoding_at trees.old.swept.case trees.old.swept.moment) (table_by table).root (table_by table).columns trees.old.rowid) }
+    ensures case { trees.new.swept.case ≡ trees.old.swept.case }
+    ensures place { trees.new.swept.place ≡ trees.old.swept.place }
+    ensures rowid { trees.new.rowid ≡ trees.old.rowid }
 {
-    let layout = snapshot.layout();
+    let snapshot = trees.snapshot();
+    let moment = trees.moment();
+    let usable = snapshot.layout().usable;
     let encoding = snapshot.encoding();
+    let history = trees.history(usable, table.root)?;
     let lines = RowLines::new(
         alloc,
         snapshot,
         moment,
-        layout.usable,
+        usable,
         encoding,
-        table.root,
         table.columns,
-        rowid,
-    )?;
+        history,
+    );
     Ok(MomentLines::Rows(lines))
 }

@@ -1,3 +1,4 @@
 pub mod Histories
 pub mod Rest
 pub mod Moments
+pub mod Trees

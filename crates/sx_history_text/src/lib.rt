@@ -5,10 +5,12 @@ mod lack;
 mod moment_lines;
 mod row_lines;
 mod texts;
+mod trees;
 
 pub use lack::Lack;
 pub use moment_lines::MomentLines;
 pub use row_lines::RowLines;
+pub use trees::TreeHistories;
 
 #[cfg(test)]
 mod tests;

@@ -1,18 +1,18 @@
 //! The lines of a moment at which the table has a tree.
-ghost use Rattle.std.specs.Prelude.{◌≡◌, ◌≤◌, ◌<◌, ◌+◌, ◌^◌, cond, slice_get, IfOk, IfSome};
+ghost use Rattle.std.specs.Prelude.{◌≡◌, ◌≤◌, ◌<◌, ◌+◌, ◌^◌, cond, map, slice_get, IfSome};
 ghost use Rattle.std.specs.Option.{option_map};
-ghost use Rattle.sx_history.specs.Given.{items_by};
+ghost use Rattle.sx_history.specs.Given.{faults_by, items_by};
 ghost use Rattle.sx_moment.specs.Gathered.{size_at};
 ghost use Rattle.sx_moment.specs.Views.{view_of};
 ghost use Rattle.sx_show_text.specs.Given.{columns_by};
-ghost use Rattle.sx_history_text.specs.Histories.{row_lines};
+ghost use Rattle.sx_history_text.specs.Histories.{found_printed, rows_lines};
 
 use crate::texts::{put_found, put_last_line};
 use std::alloc::{AllocError, Global};
 use std::marker::Model;
 use sx_base::Moment;
 use sx_bytes::Encoding;
-use sx_history::{Found, History, history};
+use sx_history::{Found, History};
 use sx_lines::Lines;
 use sx_moment::Snapshot;
 use sx_row::ChainLengths;
@@ -53,10 +53,10 @@ impl<'c, 'a> Model for RowLines<'c, 'a> {
 }
 
 impl<'c, 'a> RowLines<'c, 'a> {
-    /// All lines of a moment over the tree with that root, a page number, over the moment's pages with so many usable bytes:
-    /// from 480 to the page size. The shape is that of the table's text, where this gives one; texts are in this encoding.
+    /// All lines of a moment at which this was found in the table's tree, over the moment's pages with so many usable bytes: from
+    /// 480 to the page size. The shape is that of the table's text, where this gives one; texts are in this encoding.
     ///
-    /// It walks the tree, and answers `AllocError` where memory runs out. Each line is made when it is written.
+    /// Each line is made when it is written.
     #[tactic(auto, using(crate::proofs::Listing::from_none))]
     pub fn new(
         alloc: Global,
@@ -64,18 +64,16 @@ impl<'c, 'a> RowLines<'c, 'a> {
         moment: Moment,
         usable: u32,
         encoding: Encoding,
-        root: u32,
         shape: Option<Columns>,
-        rowid: i64,
-    ) -> Result<Self, AllocError>
+        history: History,
+    ) -> Self
         requires least { 480 ≤ usable }
         requires within { usable ≤ snapshot.case.now.header.page_size }
         requires small { snapshot.case.now.header.page_size ≤ 65536 }
-        ensures { IfOk result (λ lines. lines ≡ row_lines moment (size_at snapshot.entry.case.now snapshot.entry.moment) (view_of snapshot.entry.case.now snapshot.entry.moment) usable encoding root (option_map columns_by shape) rowid) }
+        ensures { result ≡ rows_lines moment (faults_by history) (map (found_printed (size_at snapshot.entry.case.now snapshot.entry.moment) (view_of snapshot.entry.case.now snapshot.entry.moment) usable encoding (option_map columns_by shape)) (items_by history)) }
     {
-        let history = history(alloc, &snapshot, usable, root, rowid)?;
         let lengths = ChainLengths::new(alloc, &snapshot);
-        Ok(RowLines {
+        RowLines {
             snapshot,
             moment,
             usable,
@@ -88,7 +86,7 @@ impl<'c, 'a> RowLines<'c, 'a> {
             lengths,
             room: Vec::new(alloc),
             own: String::new(alloc),
-        })
+        }
     }
 }
 

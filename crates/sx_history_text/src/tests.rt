@@ -47,18 +47,20 @@ fn a_moment_is_told_by_its_rows_or_by_what_it_lacks(rt: HostRuntime) -> Result<(
         journal: None,
     };
     let case = Case::gather(alloc, header, evidence)?;
-    let snapshot = case.snapshot(Moment::File).ok_or("no moment")?;
     assert!(rt; case.header().page_size == 512);
+    let mut trees = TreeHistories::new(alloc, &case, 1)?;
+    assert_eq!(rt; trees.moment(), Moment::File);
+    let history = trees.history(512, 2)?;
     let rows = RowLines::new(
         alloc,
-        snapshot,
+        trees.snapshot(),
         Moment::File,
         512,
         Encoding::Utf8,
-        2,
         None,
-        1,
-    )?;
+        history,
+    );
+    assert!(rt; !trees.next());
     let mut out = Tray::new(alloc, 1000, 7)?;
     let mut lines = MomentLines::Rows(rows);
     assert_eq!(rt; write_lines(alloc, &mut lines, &mut out), Ok(()));

@@ -1,0 +1,177 @@
+//! What the trees of a table hold under a rowid, moment after moment.
+ghost use Rattle.std.specs.Prelude.{◌≡◌, ◌↔◌, ◌+◌, ◌-◌, ◌<◌, ◌≤◌, IsTrue, IfOk, OnOk, Some, false, true, length, slice_get};
+ghost use Rattle.sx_history.specs.Given.{faults_by, items_by};
+ghost use Rattle.sx_history.specs.History.{faults_of, found_of};
+ghost use Rattle.sx_moment.specs.Gathered.{is_moment, moments_of, size_at};
+ghost use Rattle.sx_moment.specs.Sweep.{GoesOn, moment_at};
+ghost use Rattle.sx_moment.specs.Views.{view_of};
+ghost use Rattle.sx_history_text.specs.Trees.{IsAt, IsBehind, Says};
+
+use std::alloc::{AllocError, Global};
+use std::marker::Model;
+use sx_base::{Moment, Pages};
+use sx_history::{History, HistoryWalk};
+use sx_moment::{Case, Snapshot, Sweep};
+
+/// What the trees of a table hold under a rowid at the moments of a case, from the first on.
+///
+/// What a tree held at the moment before is kept as long as [`HistoryWalk`] shows that it stands; at a moment without a tree
+/// nothing is looked at, and what changes there counts as changed at the next.
+#[derive(Drop)]
+pub struct TreeHistories<'c, 'a> {
+    alloc: Global,
+    sweep: Sweep<'c, 'a>,
+    walk: Option<HistoryWalk<'a>>,
+    rowid: i64,
+}
+
+impl<'c, 'a> Model for TreeHistories<'c, 'a> {
+    ghost use Rattle.sx_history_text.specs.Trees.{IsBehind, Tracked};
+
+    ghost Value = { Tracked };
+
+    ghost view = { λ it. record { swept = it.sweep; rowid = it.rowid } };
+
+    ghost invariant = { λ it. IsBehind it.sweep it.rowid it.walk };
+}
+
+impl<'c, 'a> TreeHistories<'c, 'a> {
+    /// The first moment of a case, and the rowid that is looked for.
+    ///
+    /// The cost and the memory are those of [`Case::sweep`]. It answers `AllocError` where memory runs out.
+    pub fn new(alloc: Global, case: &'c Case<'a>, rowid: i64) -> Result<Self, AllocError>
+        ensures case { IfOk result (λ it. it.swept.case ≡ case.entry.now) }
+        ensures place { IfOk result (λ it. it.swept.place ≡ 0) }
+        ensures rowid { IfOk result (λ it. it.rowid ≡ rowid) }
+    {
+        let sweep = case.sweep(alloc)?;
+        Ok(TreeHistories {
+            alloc,
+            sweep,
+            walk: None,
+            rowid,
+        })
+    }
+
+    /// The moment in hand.
+    pub fn moment(&self) -> Moment
+        ensures value { result ≡ self.now.swept.moment }
+        ensures there { slice_get (moments_of self.now.swept.case) self.now.swept.place ≡ Some self.now.swept.moment }
+    {
+        self.sweep.moment()
+    }
+
+    /// The snapshot of the moment in hand.
+    pub fn snapshot(&self) -> Snapshot<'c, 'a>
+        ensures case { result.case.now ≡ self.now.swept.case }
+        ensures moment { result.moment ≡ self.now.swept.moment }
+    {
+        self.sweep.snapshot()
+    }
+
+    /// Goes to the next moment, and says whether there is one: at the last it changes nothing. The cost is that of
+    /// [`Sweep::next`], and it takes no memory.
+    pub fn next(&mut self) -> bool
+        ensures more { IsTrue result ↔ (self.old.swept.place + 1 < length (moments_of self.old.swept.case)) }
+        ensures next { result ≡ true → GoesOn self.old.swept self.new.swept }
+        ensures last { result ≡ false → self.new.swept ≡ self.old.swept }
+        ensures rowid { self.new.rowid ≡ self.old.rowid }
+    {
+        self.sweep.next()
+    }
+
+    /// What the tree with this root, a page number, holds under the rowid at the moment in hand, over pages with so many usable
+    /// bytes: from 480 to the page size.
+    ///
+    /// The cost is that of [`HistoryWalk::start`] at the first tree, and then that of [`HistoryWalk::advance`]; the rows that
+    /// were found are copied. It answers `AllocError` where memory runs out.
+    pub fn history(&mut self, usable: u32, root: u32) -> Result<History, AllocError>
+        requires least { 480 ≤ usable }
+        requires within { usable ≤ self.old.swept.case.header.page_size }
+        requires small { self.old.swept.case.header.page_size ≤ 65536 }
+        ensures found { IfOk result (λ history. items_by history ≡ found_of (size_at self.old.swept.case self.old.swept.moment) (view_of self.old.swept.case self.old.swept.moment) usable root self.old.rowid) }
+        ensures faults { IfOk result (λ history. faults_by history ≡ faults_of (size_at self.old.swept.case self.old.swept.moment) (view_of self.old.swept.case self.old.swept.moment) usable root) }
+        ensures case { self.new.swept.case ≡ self.old.swept.case }
+        ensures place { self.new.swept.place ≡ self.old.swept.place }
+        ensures moment { self.new.swept.moment ≡ self.old.swept.moment }
+        ensures rowid { self.new.rowid ≡ self.old.rowid }
+    {
+        let _moment = self.sweep.moment();
+        let walk = walk_to(
+            self.alloc,
+            &self.sweep,
+            self.walk.take(),
+            usable,
+            root,
+            self.rowid,
+        )?;
+        self.sweep.settled();
+        let history = walk.history().again(self.alloc);
+        self.walk = Some(walk);
+        history
+    }
+}
+
+/// The walk over trees at the moment in hand.
+fn walk_to<'a>(
+    alloc: Global,
+    sweep: &Sweep<'_, 'a>,
+    walk: Option<HistoryWalk<'a>>,
+    usable: u32,
+    root: u32,
+    rowid: i64,
+) -> Result<HistoryWalk<'a>, AllocError>
+    requires least { 480 ≤ usable }
+    requires within { usable ≤ sweep.now.case.header.page_size }
+    requires small { sweep.now.case.header.page_size ≤ 65536 }
+    requires behind { IsBehind sweep.now rowid walk }
+    ensures { IfOk result (Says sweep.now.case sweep.now.moment sweep.now.numbers usable root rowid) }
+{
+    // That the moment has a snapshot says that it is one of the case.
+    let _snapshot = sweep.snapshot();
+    match walk {
+        None => start(alloc, sweep, usable, root, rowid),
+        Some(walk) => advance(sweep, walk, usable, root, rowid),
+    }
+}
+
+/// The walk over trees, begun at the moment in hand.
+fn start<'a>(
+    alloc: Global,
+    sweep: &Sweep<'_, 'a>,
+    usable: u32,
+    root: u32,
+    rowid: i64,
+) -> Result<HistoryWalk<'a>, AllocError>
+    requires listed { IsTrue (is_moment sweep.now.case sweep.now.moment) }
+    requires least { 480 ≤ usable }
+    requires within { usable ≤ sweep.now.case.header.page_size }
+    requires small { sweep.now.case.header.page_size ≤ 65536 }
+    ensures { IfOk result (Says sweep.now.case sweep.now.moment sweep.now.numbers usable root rowid) }
+{
+    let numbers = sweep.numbers();
+    let walk = HistoryWalk::start(alloc, sweep, numbers, usable, root, rowid)?;
+    Ok(walk)
+}
+
+/// The walk over trees, gone on to the moment in hand from the last settled one.
+fn advance<'a>(
+    sweep: &Sweep<'_, 'a>,
+    walk: HistoryWalk<'a>,
+    usable: u32,
+    root: u32,
+    rowid: i64,
+) -> Result<HistoryWalk<'a>, AllocError>
+    requires listed { IsTrue (is_moment sweep.now.case sweep.now.moment) }
+    requires least { 480 ≤ usable }
+    requires within { usable ≤ sweep.now.case.header.page_size }
+    requires small { sweep.now.case.header.page_size ≤ 65536 }
+    requires settled { 1 ≤ sweep.now.settled }
+    requires behind { IsAt sweep.now.case (moment_at sweep.now.case (sweep.now.settled - 1)) sweep.now.numbers rowid walk }
+    ensures { IfOk result (Says sweep.now.case sweep.now.moment sweep.now.numbers usable root rowid) }
+{
+    let _numbers = sweep.numbers();
+    let mut walk = walk;
+    walk.advance(sweep, sweep.changed(), usable, root)?;
+    Ok(walk)
+}
