@@ -31,8 +31,8 @@ use sx_words::{Question, Request, read_words};
 /// refused without memory. A drill asks the store for nothing: its evidence is made from its seed.
 ///
 /// The cost is that of reading the files, of finding the answer and of writing the text. Most commands find it at the price
-/// of one moment's pages; `history` at that price for each moment; `carve` at all moments, `report` and `drill` at that of
-/// what changes from one moment to the next.
+/// of one moment's pages; `carve` at all moments, `report` and `drill` at that of what changes from one moment to the next;
+/// `history` at that of each moment's schema, and of the table's whole tree where what changed doesn't leave its answer.
 pub fn examine<S: Store, W: Sink>(
     alloc: Global,
     words: &[String],
