@@ -75,7 +75,7 @@ tally_permuted p claims sorted permuted =
 
 -- ---- what is claimed of a byte gives its label
 
-state_case : (node : NodePage) (at : ℕ) (claims : List Claim) → state_label (content_start node) (tally claims) at ≡ claimed_label node at claims
+pub state_case : (node : NodePage) (at : ℕ) (claims : List Claim) → state_label (content_start node) (tally claims) at ≡ claimed_label node at claims
 state_case node at [] = refl
 state_case node at (claim ∷ []) = refl
 state_case node at (claim ∷ other ∷ claims) = refl

@@ -12,3 +12,4 @@ pub mod Stretching
 pub mod Sums
 pub mod Items
 pub mod Finding
+pub mod Apart

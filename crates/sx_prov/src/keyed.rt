@@ -1,9 +1,9 @@
 //! The labels that a key gives for the bytes of a page.
-ghost use Rattle.std.specs.Prelude.{◌≡◌, nat_lt, if◌then◌else◌, ℕ, ◌+◌, ◌-◌, ◌*◌, ◌/◌, ◌<◌, ◌≤◌, ◌++◌, [], ◌∷◌, length, replicate, map, min, slice_index_or, All, IsPermutation, IfOk, OnOk};
+ghost use Rattle.std.specs.Prelude.{◌≡◌, nat_lt, if◌then◌else◌, ℕ, ◌+◌, ◌-◌, ◌*◌, ◌/◌, ◌<◌, ◌≤◌, ◌++◌, [], ◌∷◌, length, replicate, map, min, slice_index_or, All, IsPermutation, IsTrue, IfOk, OnOk};
 ghost use Rattle.sx_node.specs.Nodes.{node_of, content_start};
 ghost use Rattle.sx_node.specs.Claims.{LiesWithin, claims_of};
 ghost use Rattle.sx_free.specs.Trunks.{trunk_of};
-ghost use Rattle.sx_seglist.specs.Claims.{AreCounted};
+ghost use Rattle.sx_seglist.specs.Claims.{AreCounted, claimed_by};
 ghost use Rattle.sx_seglist.specs.Runs.{state_at};
 ghost use Rattle.sx_prov.specs.Labels.{if_node, node_label, trunk_label, map_label, body_label};
 ghost use Rattle.sx_prov.specs.Keys.{standing_label, key_label, keyed_labels};
@@ -165,9 +165,40 @@ fn put_claims(
     ensures { OnOk result (map.new ≡ up_to (node_label node.now) usable) }
 {
     let claims = sorted_claims(alloc, node)?;
+    let mut apart = PageMap::new(alloc);
+    if put_apart(&mut apart, &claims, node.content(), usable)? {
+        *map = apart;
+        return Ok(());
+    }
     let states = count_claims(alloc, &claims, usable)?;
     put_states(map, &states, node.content())?;
     Ok(())
+}
+
+/// Gives the bytes their labels where each claim begins behind the end of the one before: whether that is so. Else the map is of
+/// no use.
+fn put_apart(
+    map: &mut PageMap,
+    claims: &[(Span, Label)],
+    content: u32,
+    usable: u32,
+) -> Result<bool, AllocError>
+    requires none { map.old ≡ [] }
+    requires small { usable ≤ 65536 }
+    requires within { All (LiesWithin usable) claims.now }
+    ensures { IfOk result (λ apart. IsTrue apart → map.new ≡ up_to (λ at. state_label content (claimed_by claims.now at) at) usable) }
+{
+    let mut end = 0;
+    for (span, label) in claims {
+        if span.start < end {
+            return Ok(false);
+        }
+        put_unclaimed(map, span.start, content)?;
+        end = span.start + span.len;
+        put_one(map, end, *label)?;
+    }
+    put_unclaimed(map, usable, content)?;
+    Ok(true)
 }
 
 /// The claims of a b-tree page by rising start. The sort takes no memory.
