@@ -10,7 +10,7 @@ use Rattle.sx_lines.specs.Lines.{IsNextLine}
 use Rattle.sx_moment.specs.Gathered.{Gathered, moments_of}
 use Rattle.sx_moment.specs.Sweep.{GoesOn}
 use Rattle.sx_history_text.specs.Trees.{Tracked}
-use Rattle.sx_app.specs.Histories.{history_at, history_by, table_there}
+use Rattle.sx_app.specs.Histories.{histories_of, history_at, history_by, table_there}
 use Rattle.sx_app.specs.Owed.{Fails}
 use Rattle.sx_app.specs.Tables.{Table, MayLack}
 use Rattle.sx_app.specs.declared.refused.Refused.{Refused}
@@ -43,7 +43,7 @@ first_there make moments place moment is =
     ∙ flat_map-cons make moment (drop (place + 1) moments)
 
 -- with the lines of the first moment all are there
-pub all_there : (make : Moment → List (List ℕ)) (moments : List Moment) (moment : Moment) (current : List (List ℕ)) → slice_get moments 0 ≡ Some moment → current ≡ make moment
+all_there : (make : Moment → List (List ℕ)) (moments : List Moment) (moment : Moment) (current : List (List ℕ)) → slice_get moments 0 ≡ Some moment → current ≡ make moment
     → current ++ flat_map make (drop 1 moments) ≡ flat_map make moments
 all_there make moments moment current is made = ap (λ l. l ++ flat_map make (drop 1 moments)) made ∙ sym (first_there make moments 0 moment is)
 
@@ -79,6 +79,24 @@ later_next make moments place moment current first now line false none is made s
 -- the lines of the moments behind the one in hand
 abbrev behind : List ℕ → Tracked → List (List ℕ)
 behind name it = flat_map (history_at it.swept.case name it.rowid) (drop (it.swept.place + 1) (moments_of it.swept.case))
+
+-- with the lines of the first moment of a case all are there
+pub first_all : (case : Gathered) (name : List ℕ) (rowid : ℤ) (first now : Tracked) (current : List (List ℕ)) → first.swept.case ≡ case → first.swept.place ≡ 0 → first.rowid ≡ rowid
+    → now.swept.case ≡ first.swept.case → now.swept.place ≡ first.swept.place → now.rowid ≡ first.rowid
+    → slice_get (moments_of first.swept.case) first.swept.place ≡ Some first.swept.moment
+    → current ≡ history_at first.swept.case name first.rowid first.swept.moment
+    → current ++ behind name now ≡ histories_of case name rowid
+unfolding histories_of
+first_all case name rowid first now current case_is place_is rowid_is now_case now_place now_rowid there made =
+    let moment = first.swept.moment in
+    let at : slice_get (moments_of case) 0 ≡ Some moment =
+    ap (λ c. slice_get (moments_of c) 0) (sym case_is) ∙ ap (slice_get (moments_of first.swept.case)) (sym place_is) ∙ there in
+    let lines : current ≡ history_at case name rowid moment =
+    made ∙ ap (λ c. history_at c name first.rowid moment) case_is ∙ ap (λ r. history_at case name r moment) rowid_is in
+    ap (λ n. current ++ flat_map (history_at now.swept.case name now.rowid) (drop (n + 1) (moments_of now.swept.case))) (now_place ∙ place_is)
+    ∙ ap (λ r. current ++ flat_map (history_at now.swept.case name r) (drop 1 (moments_of now.swept.case))) (now_rowid ∙ rowid_is)
+    ∙ ap (λ c. current ++ flat_map (history_at c name rowid) (drop 1 (moments_of c))) (now_case ∙ case_is)
+    ∙ all_there (history_at case name rowid) (moments_of case) moment current at lines
 
 -- the first line of the moment that was gone to was taken
 pub goes_next : (name : List ℕ) (before moved now : Tracked) (current first taken : List (List ℕ)) (line : List ℕ) (more : Bool)

@@ -12,11 +12,11 @@ ghost use Rattle.sx_app.specs.Histories.{histories_of, history_at, lack_of, tabl
 ghost use Rattle.sx_app.specs.HistoryRest.{histories_rest};
 ghost use Rattle.sx_app.specs.Owed.{Gives};
 ghost use Rattle.sx_app.specs.Stages.{MayMeet, Deciding};
-ghost use Rattle.sx_app.specs.Tables.{MayLack};
+ghost use Rattle.sx_app.specs.Tables.{MayLack, table_named};
 ghost use Rattle.sx_app.specs.declared.refused.Refused.TheVariants.{Memory};
 
 use crate::refused::Refused;
-use crate::tables::{Table, table_named};
+use crate::tables::{Table, is_schema_name, schema_table, table_in, table_named};
 use std::alloc::{AllocError, Global};
 use sx_base::Moment;
 use sx_history_text::{Lack, MomentLines, RowLines, TreeHistories};
@@ -25,8 +25,9 @@ use sx_moment::{Case, Snapshot};
 
 /// The lines of `history` that are still to come, moment by moment.
 ///
-/// At each moment the schema and the table's text are read anew; the table's tree is walked anew only where what is kept of the
-/// moment before doesn't show that it says the same of the rowid.
+/// At each moment the table is looked up and its text is read; the schema is read anew only where a page of its tree or an
+/// overflow page of its rows changed, and the table's tree is walked anew only where what is kept of the moment before doesn't
+/// show that it says the same of the rowid.
 #[derive(Drop)]
 pub struct HistoryLines<'t, 'c, 'a> {
     alloc: Global,
@@ -38,7 +39,6 @@ pub struct HistoryLines<'t, 'c, 'a> {
 impl<'t, 'c, 'a> HistoryLines<'t, 'c, 'a> {
     /// All lines under the name of a table and a rowid. It looks at the first moment, and answers `AllocError` where memory runs
     /// out.
-    #[tactic(auto, unfolding(crate::specs::Histories::histories_of), using(crate::proofs::AllMoments::all_there))]
     fn new(
         alloc: Global,
         case: &'c Case<'a>,
@@ -102,14 +102,60 @@ fn moment_lines<'c, 'a>(
     ensures place { trees.new.swept.place ≡ trees.old.swept.place }
     ensures rowid { trees.new.rowid ≡ trees.old.rowid }
 {
-    let snapshot = trees.snapshot();
     let moment = trees.moment();
-    match table_there(alloc, &snapshot, moment, table) {
+    match table_kept(alloc, trees, table) {
         Ok(table) => rows_of_table(alloc, trees, table),
         Err(refused) => {
             let lack = lack_of(refused)?;
             Ok(MomentLines::Lacking { moment, lack })
         }
+    }
+}
+
+/// The table of a name at the moment in hand: what [`table_there`] finds, with the schema that is kept of
+/// the moment before where that stands.
+#[tactic(auto, unfolding(crate::specs::Histories::table_there))]
+fn table_kept(
+    alloc: Global,
+    trees: &mut TreeHistories<'_, '_>,
+    name: &str,
+) -> Result<Table, Refused>
+    ensures told { Gives table_by result (table_there trees.old.swept.case trees.old.swept.moment name.now) }
+    ensures may { IfErr result MayLack }
+    ensures swept { trees.new.swept ≡ trees.old.swept }
+    ensures rowid { trees.new.rowid ≡ trees.old.rowid }
+{
+    let snapshot = trees.snapshot();
+    let moment = trees.moment();
+    if snapshot.head().is_none() {
+        return Err(Refused::Unreadable(moment));
+    }
+    table_read(alloc, trees, &snapshot, name)
+}
+
+/// The table of a name at the moment in hand, whose page 1 is a header.
+#[tactic(auto, unfolding(crate::specs::Tables::table_named))]
+fn table_read(
+    alloc: Global,
+    trees: &mut TreeHistories<'_, '_>,
+    snapshot: &Snapshot<'_, '_>,
+    name: &str,
+) -> Result<Table, Refused>
+    requires case { snapshot.now.case.now ≡ trees.old.swept.case }
+    requires moment { snapshot.now.moment ≡ trees.old.swept.moment }
+    ensures told { Gives table_by result (table_named trees.old.swept.case trees.old.swept.moment name.now) }
+    ensures may { IfErr result MayLack }
+    ensures swept { trees.new.swept ≡ trees.old.swept }
+    ensures rowid { trees.new.rowid ≡ trees.old.rowid }
+{
+    if is_schema_name(name.as_bytes()) {
+        return schema_table(alloc);
+    }
+    let layout = snapshot.layout();
+    trees.read_schema(layout.usable, snapshot.encoding())?;
+    match trees.schema() {
+        Some(schema) => table_in(alloc, schema, name.as_bytes()),
+        None => unreachable!(),
     }
 }
 

@@ -84,7 +84,7 @@ pub fn table_named(alloc: Global, snapshot: &Snapshot<'_, '_>, name: &str) -> Re
 }
 
 /// Whether it is one of the two names of the table that holds the schema.
-fn is_schema_name(name: &[u8]) -> bool
+pub fn is_schema_name(name: &[u8]) -> bool
     ensures { result ≡ is_schema_name name.now }
 {
     name.eq_ignore_ascii_case(b"sqlite_schema") || name.eq_ignore_ascii_case(b"sqlite_master")
@@ -92,7 +92,7 @@ fn is_schema_name(name: &[u8]) -> bool
 
 /// The table that holds the schema.
 #[tactic(auto, unfolding(crate::specs::Tables::schema_table))]
-fn schema_table(alloc: Global) -> Result<Table, Refused>
+pub fn schema_table(alloc: Global) -> Result<Table, Refused>
     ensures told { Gives table_by result (Ok schema_table) }
     ensures may { IfErr result MayLack }
 {
@@ -135,7 +135,7 @@ pub fn schema_at(alloc: Global, snapshot: &Snapshot<'_, '_>) -> Result<Schema, A
 
 /// The first table of a name in a schema.
 #[tactic(auto, unfolding(crate::specs::Tables::table_in))]
-fn table_in(alloc: Global, schema: &Schema, name: &[u8]) -> Result<Table, Refused>
+pub fn table_in(alloc: Global, schema: &Schema, name: &[u8]) -> Result<Table, Refused>
     ensures told { Gives table_by result (table_in (entries_by schema.now) name.now) }
     ensures may { IfErr result MayLack }
 {

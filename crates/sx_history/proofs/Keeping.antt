@@ -18,7 +18,7 @@ use Rattle.sx_history.specs.History.{faults_of, found_of}
 use Rattle.sx_history.specs.Leaves.{IsLeaf, IsLocal, StaysLeaf}
 use Rattle.sx_history.specs.Closed.{AllNamed, IsClosed, IsLinked, IsNamed, IsSteady}
 use Rattle.sx_history.specs.Marks.{AreLinkedBut, AreMarked, AreNamedBut, AreWhole, IsNoted, IsWhole, is_marked, view_at}
-use Rattle.sx_history.specs.Standing.{AreSteady, Covers, IfStanding, IsStanding, IsSteadyPage, StandBut}
+use Rattle.sx_history.specs.Standing.{AreSteady, Covers, IfStanding, IsStanding, IsSteadyPage, IsWatched, StandBut}
 use Rattle.sx_history.proofs.Trees.{IsLaw, read_is}
 use Rattle.sx_history.proofs.Says.{faults_same, found_same}
 
@@ -121,13 +121,13 @@ room_of usable view whole number page is = (subst (IsWhole usable) is (whole num
 
 -- ---- all pages
 
-module _ (numbers : List ℕ) (views : List (Option (List ℕ))) (size usable root : ℕ) (rowid : ℤ) (history : History) (nodes chains : List Bool)
-    (kept : IsStanding numbers views size usable root rowid history nodes chains) (next : ℕ → Option (List ℕ)) (changed : List ℕ) (covers : Covers numbers next)
+module _ (numbers : List ℕ) (views : List (Option (List ℕ))) (usable root : ℕ) (nodes chains : List Bool)
+    (kept : IsWatched numbers views usable root nodes chains) (next : ℕ → Option (List ℕ)) (changed : List ℕ) (covers : Covers numbers next)
     (stand : StandBut changed numbers views next) (whole : (number : ℕ) → IsWhole usable (next number)) where
-  kept_at : (rank : ℕ) → rank < length numbers → view_at views rank ≡ kept.view (get_or numbers rank 0)
+  pub kept_at : (rank : ℕ) → rank < length numbers → view_at views rank ≡ kept.view (get_or numbers rank 0)
   kept_at rank within = ap (λ vs. view_at vs rank) kept.views_are ∙ map_at kept.view numbers rank within
 
-  module _ (steady : AreSteady usable rowid numbers views next nodes chains changed) where
+  module _ (rowid : ℤ) (steady : AreSteady usable rowid numbers views next nodes chains changed) where
     by_rank : (rank : ℕ) → rank < length numbers → IsSteadyPage usable (get_or numbers rank 0) rowid (kept.view (get_or numbers rank 0)) (next (get_or numbers rank 0)) (is_marked nodes rank) (is_marked chains rank)
     by_rank rank within =
         let number = get_or numbers rank 0 in
@@ -141,7 +141,7 @@ module _ (numbers : List ℕ) (views : List (Option (List ℕ))) (size usable ro
     among_case number None (Some page) was is = inl (covers number (ap is_some is))
     among_case number None None was is = inr (is ∙ sym was)
 
-    among : (number : ℕ) → Contains numbers number ⊎ (next number ≡ kept.view number)
+    pub among : (number : ℕ) → Contains numbers number ⊎ (next number ≡ kept.view number)
     among number = among_case number (kept.view number) (next number) refl refl
 
     held_at : (number : ℕ) → Contains numbers number → is_some (next number) ≡ is_some (kept.view number)
@@ -191,7 +191,7 @@ module _ (numbers : List ℕ) (views : List (Option (List ℕ))) (size usable ro
           linked_at at.0 number at.1 at.2 at.3 page is;
     }
 
-    law : IsLaw usable root rowid kept.view next (IsNoted numbers nodes) (IsNoted numbers chains)
+    pub law : IsLaw usable root rowid kept.view next (IsNoted numbers nodes) (IsNoted numbers chains)
     law = record {
       least = kept.least;
       room = room_of usable kept.view kept.whole;
@@ -200,12 +200,6 @@ module _ (numbers : List ℕ) (views : List (Option (List ℕ))) (size usable ro
       steady = is_steady;
       at_root = kept.marked.at_root;
     }
-
-    pub found_still : items_by history ≡ found_of size next usable root rowid
-    found_still = kept.found_is ∙ sym (found_same size usable root rowid kept.view next (IsNoted numbers nodes) (IsNoted numbers chains) law)
-
-    pub faults_still : faults_by history ≡ faults_of size next usable root
-    faults_still = kept.faults_are ∙ sym (faults_same size usable root rowid kept.view next (IsNoted numbers nodes) (IsNoted numbers chains) law)
 
     named_now : (rank : ℕ) → rank < length numbers → is_marked nodes rank ≡ true
         → AllNamed (IsNoted numbers nodes) (IsNoted numbers chains) usable (get_or numbers rank 0) (next (get_or numbers rank 0))
@@ -216,24 +210,18 @@ module _ (numbers : List ℕ) (views : List (Option (List ℕ))) (size usable ro
           | inr stays ↦ leaf_named (IsNoted numbers nodes) (IsNoted numbers chains) usable number rowid (kept.view number) (next number) kept.least (whole number) stays
         ]
 
-    pub standing_still : IsStanding numbers (map next numbers) size usable root rowid history nodes chains
-    standing_still = record {
-      view = next;
-      covered = covers;
-      views_are = refl;
-      least = kept.least;
-      whole = whole;
-      found_is = found_still;
-      faults_are = faults_still;
-      marked = record {
-        at_root = kept.marked.at_root;
-        named = λ rank within is.
-            inr (subst (AllNamed (IsNoted numbers nodes) (IsNoted numbers chains) usable (get_or numbers rank 0)) (sym (map_at next numbers rank within)) (named_now rank within is));
-        linked = λ rank within is.
-            inr (subst (IsLinked (IsNoted numbers chains)) (sym (map_at next numbers rank within))
-            (subst (IsLinked (IsNoted numbers chains)) (sym ((by_rank rank within).same is)) (linked_at rank (get_or numbers rank 0) within refl is)));
-      };
+    pub still_marked : AreMarked numbers (map next numbers) usable root nodes chains
+    still_marked = record {
+      at_root = kept.marked.at_root;
+      named = λ rank within is.
+          inr (subst (AllNamed (IsNoted numbers nodes) (IsNoted numbers chains) usable (get_or numbers rank 0)) (sym (map_at next numbers rank within)) (named_now rank within is));
+      linked = λ rank within is.
+          inr (subst (IsLinked (IsNoted numbers chains)) (sym (map_at next numbers rank within))
+          (subst (IsLinked (IsNoted numbers chains)) (sym ((by_rank rank within).same is)) (linked_at rank (get_or numbers rank 0) within refl is)));
     }
+
+    unfoldable pub watched_still : IsWatched numbers (map next numbers) usable root nodes chains
+    watched_still = record { view = next; covered = covers; views_are = refl; least = kept.least; whole = whole; marked = still_marked }
 
   -- ---- where the tree is walked anew, the marks are open at the changed pages alone
   pub named_but : AreNamedBut numbers (map next numbers) usable nodes chains changed
@@ -256,6 +244,29 @@ module _ (numbers : List ℕ) (views : List (Option (List ℕ))) (size usable ro
           | inr linked ↦ inr (subst (IsLinked (IsNoted numbers chains)) (stand rank within other ∙ sym (map_at next numbers rank within)) linked)
         ]
       ]
+
+-- ---- what the tree says
+
+module _ (numbers : List ℕ) (views : List (Option (List ℕ))) (size usable root : ℕ) (rowid : ℤ) (history : History) (nodes chains : List Bool)
+    (kept : IsStanding numbers views size usable root rowid history nodes chains) (next : ℕ → Option (List ℕ)) (changed : List ℕ) (covers : Covers numbers next)
+    (stand : StandBut changed numbers views next) (whole : (number : ℕ) → IsWhole usable (next number))
+    (steady : AreSteady usable rowid numbers views next nodes chains changed) where
+  same_law : IsLaw usable root rowid kept.watched.view next (IsNoted numbers nodes) (IsNoted numbers chains)
+  same_law = law numbers views usable root nodes chains kept.watched next changed covers stand whole rowid steady
+
+  pub found_still : items_by history ≡ found_of size next usable root rowid
+  found_still = kept.found_is ∙ sym (found_same size usable root rowid kept.watched.view next (IsNoted numbers nodes) (IsNoted numbers chains) same_law)
+
+  pub faults_still : faults_by history ≡ faults_of size next usable root
+  faults_still = kept.faults_are ∙ sym (faults_same size usable root rowid kept.watched.view next (IsNoted numbers nodes) (IsNoted numbers chains) same_law)
+
+  pub standing_still : IsStanding numbers (map next numbers) size usable root rowid history nodes chains
+  unfolding watched_still
+  standing_still = record {
+    watched = watched_still numbers views usable root nodes chains kept.watched next changed covers stand whole rowid steady;
+    found_is = found_still;
+    faults_are = faults_still;
+  }
 
 -- ---- what is kept, where it stands
 
@@ -293,18 +304,21 @@ none_named numbers views usable nodes chains work count are rank within is = abs
 pub none_linked : (numbers : List ℕ) (views : List (Option (List ℕ))) (chains : List Bool) (work : List ℕ) (count : ℕ) → chains ≡ replicate count false → AreLinkedBut numbers views chains work
 none_linked numbers views chains work count are rank within is = absurd (none_true chains count rank are is)
 
+-- the pages of a moment, as they are kept
+unfoldable pub first_watched : (numbers : List ℕ) (views : List (Option (List ℕ))) (usable root : ℕ) (nodes chains : List Bool) (next : ℕ → Option (List ℕ))
+    → Covers numbers next → views ≡ map next numbers → 480 ≤ usable → ((number : ℕ) → IsWhole usable (next number))
+    → AreMarked numbers views usable root nodes chains → IsWatched numbers views usable root nodes chains
+first_watched numbers views usable root nodes chains next covers are least whole marked =
+    record { view = next; covered = covers; views_are = are; least = least; whole = whole; marked = marked }
+
 -- what was found of a moment, as it is kept
 pub first_standing : (numbers : List ℕ) (views : List (Option (List ℕ))) (size pages usable root : ℕ) (rowid : ℤ) (history : History) (nodes chains : List Bool) (next : ℕ → Option (List ℕ))
     → Covers numbers next → views ≡ map next numbers → 480 ≤ usable → ((number : ℕ) → IsWhole usable (next number)) → size ≡ pages
     → items_by history ≡ found_of pages next usable root rowid → faults_by history ≡ faults_of pages next usable root
     → AreMarked numbers views usable root nodes chains → IsStanding numbers views size usable root rowid history nodes chains
+unfolding first_watched
 first_standing numbers views size pages usable root rowid history nodes chains next covers are least whole sizes found faults marked = record {
-  view = next;
-  covered = covers;
-  views_are = are;
-  least = least;
-  whole = whole;
+  watched = first_watched numbers views usable root nodes chains next covers are least whole marked;
   found_is = found ∙ ap (λ n. found_of n next usable root rowid) (sym sizes);
   faults_are = faults ∙ ap (λ n. faults_of n next usable root) (sym sizes);
-  marked = marked;
 }

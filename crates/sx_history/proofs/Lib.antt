@@ -5,5 +5,7 @@ pub mod Says
 pub mod Marking
 pub mod Leafing
 pub mod Keeping
+pub mod SameSchema
+pub mod KeptSchema
 pub mod Looking
 pub mod TwoPages

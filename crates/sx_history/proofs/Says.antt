@@ -30,6 +30,7 @@ use Rattle.sx_history.specs.declared.found.Found.{Found}
 use Rattle.sx_history.specs.History.{item_found, is_faulty, row_found, row_faulty, found_of, faults_of}
 use Rattle.sx_history.specs.Leaves.{local_row, IsLocal, IsLeaf, LeafSays, SaySame, StaysLeaf, leaf_found, leaf_faults}
 use Rattle.sx_history.specs.Closed.{IsNamed}
+use Rattle.sx_history.specs.Reading.{item_row}
 use Rattle.sx_history.proofs.SameRows.{held_same, chain_same, payload_same, local_is}
 use Rattle.sx_history.proofs.Trees.{IsLaw, all_append, all_front, all_back, read_is, opened_by, count_same}
 
@@ -180,16 +181,22 @@ module _ (size usable root : ℕ) (rowid : ℤ) (view next : ℕ → Option (Lis
   )
 
   -- what holds of the parts of a page that has the same view
-  abbrev PartStands : Part → Type 0
-  PartStands (Item item) = (make_now item ≡ make_before item) × (test_now item ≡ test_before item)
+  -- a part leads to the same rows
+  abbrev pub PartStands : Part → Type 0
+  PartStands (Item item) = item_row size next usable item ≡ item_row size view usable item
   PartStands (Child child) = Node child
+
+  item_says : (item : RowItem) → item_row size next usable item ≡ item_row size view usable item → (make_now item ≡ make_before item) × (test_now item ≡ test_before item)
+  item_says (Row page cell) same = (ap (row_found rowid page cell) same, ap row_faulty same)
+  item_says (Fault kind page cell) same = (refl, refl)
 
   parts_same : (below above : ℕ → List RowItem) → ((child : ℕ) → Node child → AreSame (below child) (above child)) → (parts : List Part) → AllByRecursion PartStands parts
       → AreSame (flat_map (part_items below) parts) (flat_map (part_items above) parts)
   parts_same below above same [] all = (refl, refl)
   parts_same below above same (Item item ∷ parts) all =
+      let says = item_says item all.0 in
       both_same (item ∷ []) (item ∷ []) (flat_map (part_items below) parts) (flat_map (part_items above) parts)
-      (ap (λ one. cons_option one []) all.0.0, ap (λ b. 0 + cond b 1 0) all.0.1) (parts_same below above same parts all.1)
+      (ap (λ one. cons_option one []) says.0, ap (λ b. 0 + cond b 1 0) says.1) (parts_same below above same parts all.1)
   parts_same below above same (Child child ∷ parts) all =
       both_same (below child) (above child) (flat_map (part_items below) parts) (flat_map (part_items above) parts) (same child all.0) (parts_same below above same parts all.1)
 
@@ -215,10 +222,10 @@ module _ (size usable root : ℕ) (rowid : ℤ) (view next : ℕ → Option (Lis
     child_stands index (Some child) all = (all.0, tt)
 
     row_stands : (kind : Kind) (number index : ℕ) → row_of size next usable number index ≡ row_of size view usable number index → AllByRecursion PartStands (row_parts kind number index)
-    row_stands TableLeaf number index same = ((ap (row_found rowid number index) same, ap row_faulty same), tt)
+    row_stands TableLeaf number index same = (same, tt)
     row_stands TableInner number index same = tt
-    row_stands IndexLeaf number index same = ((ap (row_found rowid number index) same, ap row_faulty same), tt)
-    row_stands IndexInner number index same = ((ap (row_found rowid number index) same, ap row_faulty same), tt)
+    row_stands IndexLeaf number index same = (same, tt)
+    row_stands IndexInner number index same = (same, tt)
 
     first_there : (index rest : ℕ) (overflow : Option ℕ) (first : ℕ) → overflow ≡ Some first → AllByRecursion (IsNamed Node Chain) (overflow_target index rest overflow) → Chain first
     first_there index rest None first at all = let clash : None ≡ Some first = at in absurd cc
@@ -234,7 +241,7 @@ module _ (size usable root : ℕ) (rowid : ℤ) (view next : ℕ → Option (Lis
 
     cell_stands : (index : ℕ) (found : Result Cell CellFault) → cell_in node index ≡ found → AllByRecursion (IsNamed Node Chain) (cell_targets index found)
         → row_of size next usable node.number index ≡ row_of size view usable node.number index → AllByRecursion PartStands (cell_parts node.kind node.number index found)
-    cell_stands index (Err fault) at all same = ((refl, refl), tt)
+    cell_stands index (Err fault) at all same = (refl, tt)
     cell_stands index (Ok cell) at all same =
         all_append PartStands (child_parts cell.child) (row_parts node.kind node.number index)
         (child_stands index cell.child (all_front (IsNamed Node Chain) (child_target index cell.child) (overflow_target index (spilled cell) cell.overflow) all))
@@ -254,7 +261,7 @@ module _ (size usable root : ℕ) (rowid : ℤ) (view next : ℕ → Option (Lis
     right_stands None all = tt
     right_stands (Some child) all = (all.0, tt)
 
-    all_stand : AllByRecursion PartStands (parts_of node)
+    pub all_stand : AllByRecursion PartStands (parts_of node)
     unfolding parts_of_cells cell_targets_from
     all_stand =
         let all = recursion_from_All (IsNamed Node Chain) (targets_of node) (law.closed.nodes n there page node is read) in
@@ -270,7 +277,8 @@ module _ (size usable root : ℕ) (rowid : ℤ) (view next : ℕ → Option (Lis
       let open_ = open_is (tree_in size view usable root) n node is in
       parts_same below above same (parts_of node) (all_stand n open_.page node there open_.view still open_.read)
 
-  opened_same : (n : ℕ) → next n ≡ view n → opened (tree_in size next usable root) n ≡ opened (tree_in size view usable root) n
+  -- a page that has the same view is opened alike
+  pub opened_same : (n : ℕ) → next n ≡ view n → opened (tree_in size next usable root) n ≡ opened (tree_in size view usable root) n
   unfolding opened
   opened_same n still =
       opened_by size usable root rowid view next Node Chain law n

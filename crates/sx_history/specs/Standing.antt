@@ -48,16 +48,20 @@ IsSteadyAt usable rowid numbers views view nodes chains rank =
 abbrev pub AreSteady : ℕ → ℤ → List ℕ → List (Option (List ℕ)) → (ℕ → Option (List ℕ)) → List Bool → List Bool → List ℕ → Type 0
 AreSteady usable rowid numbers views view nodes chains changed = (rank : ℕ) → Contains changed rank → IsSteadyAt usable rowid numbers views view nodes chains rank
 
--- what is kept of a moment: its size, its views by rank, what its tree says, and marks on the pages that a walk over it may go to
-pub record IsStanding (numbers : List ℕ) (views : List (Option (List ℕ))) (size usable root : ℕ) (rowid : ℤ) (history : History) (nodes chains : List Bool) : Type 0 where
+-- what is kept of the pages of a moment: the view of each by rank, and marks on those that a walk over the tree of a root may go to
+pub record IsWatched (numbers : List ℕ) (views : List (Option (List ℕ))) (usable root : ℕ) (nodes chains : List Bool) : Type 0 where
   pub view : ℕ → Option (List ℕ)
   pub covered : Covers numbers view
   pub views_are : views ≡ map view numbers
   pub least : 480 ≤ usable
   pub whole : (number : ℕ) → IsWhole usable (view number)
-  pub found_is : items_by history ≡ found_of size view usable root rowid
-  pub faults_are : faults_by history ≡ faults_of size view usable root
   pub marked : AreMarked numbers views usable root nodes chains
+
+-- and what the tree says of the rowid, where the moment has so many pages
+pub record IsStanding (numbers : List ℕ) (views : List (Option (List ℕ))) (size usable root : ℕ) (rowid : ℤ) (history : History) (nodes chains : List Bool) : Type 0 where
+  pub watched : IsWatched numbers views usable root nodes chains
+  pub found_is : items_by history ≡ found_of size watched.view usable root rowid
+  pub faults_are : faults_by history ≡ faults_of size watched.view usable root
 
 -- so it is, where it is said to
 abbrev pub IfStanding : Bool → List ℕ → List (Option (List ℕ)) → ℕ → ℕ → ℕ → ℤ → History → List Bool → List Bool → Type 0

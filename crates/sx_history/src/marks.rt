@@ -1,13 +1,68 @@
 //! The pages that a walk over a tree may go to, marked by rank.
-ghost use Rattle.std.specs.Prelude.{◌≡◌, ◌<◌, ◌≤◌, [], true, length, map, slice_index, option_copied, All, IfOk, OnOk};
+ghost use Rattle.std.specs.Prelude.{◌≡◌, ◌<◌, ◌≤◌, [], false, true, length, map, replicate, slice_index, option_copied, All, IsTrue, IfOk, OnOk};
 ghost use Rattle.std.specs.List.{All as AllOf};
 ghost use Rattle.std.specs.List.Sorted.{IsStrictlyIncreasing};
 ghost use Rattle.sx_history.specs.Closed.{AllNamed, IsLinked, IsNamed};
 ghost use Rattle.sx_history.specs.Marks.{AreKept, AreLinkedBut, AreMarked, AreNamedBut, AreWhole, Grows, IsNoted, is_marked, view_at};
 
+use crate::setting::Setting;
 use std::alloc::{AllocError, Global};
 use sx_bytes::be32;
 use sx_node::{NodeTarget, Targets, read_node};
+
+/// Whether the marks of the moment before serve on at one with so many usable bytes.
+pub(crate) fn marks_fit(stands: bool, before: u32, usable: u32) -> bool
+    ensures { IsTrue result → (stands ≡ true) × (before ≡ usable) }
+{
+    stands && before == usable
+}
+
+/// Marks on, once some pages changed; all over, where the marks don't serve on.
+pub(crate) fn mark_again(
+    alloc: Global,
+    numbers: &[u32],
+    views: &[Option<&[u8]>],
+    fits: bool,
+    setting: &Setting,
+    changed: &[u32],
+    nodes: &mut Vec<bool>,
+    chains: &mut Vec<bool>,
+) -> Result<(), AllocError>
+    requires rising { IsStrictlyIncreasing numbers.now }
+    requires views { length views.now ≡ length numbers.now }
+    requires nodes { length nodes.old.items ≡ length numbers.now }
+    requires chains { length chains.old.items ≡ length numbers.now }
+    requires ranks { All (λ rank. rank < length numbers.now) changed.now }
+    requires least { 480 ≤ setting.now.usable }
+    requires whole { AreWhole setting.now.usable (map option_copied views.now) }
+    requires named { fits ≡ true → AreNamedBut numbers.now (map option_copied views.now) setting.now.usable nodes.old.items chains.old.items changed.now }
+    requires linked { fits ≡ true → AreLinkedBut numbers.now (map option_copied views.now) chains.old.items changed.now }
+    ensures nodes { length nodes.new.items ≡ length numbers.now }
+    ensures chains { length chains.new.items ≡ length numbers.now }
+    ensures marked { OnOk result (AreMarked numbers.now (map option_copied views.now) setting.now.usable setting.now.root nodes.new.items chains.new.items) }
+{
+    if !fits {
+        clear(nodes);
+        clear(chains);
+    }
+    mark_on(
+        alloc,
+        numbers,
+        views,
+        setting.usable,
+        setting.root,
+        changed,
+        nodes,
+        chains,
+    )
+}
+
+/// Takes all marks away.
+fn clear(marks: &mut Vec<bool>)
+    ensures { marks.new.items ≡ replicate (length marks.old.items) false }
+{
+    marks.fill(false);
+}
 
 /// Marks on, once the pages of some ranks changed: the root, and with each marked page what it leads to now.
 ///

@@ -3,6 +3,7 @@ use std::alloc::Global;
 use std::process::Abort;
 use std::test::Fail;
 use sx_base::Sheets;
+use sx_bytes::Encoding;
 
 #[test]
 fn a_row_is_found_by_its_rowid_and_faults_are_counted(rt: HostRuntime) -> Result<(), Fail> {
@@ -78,6 +79,45 @@ fn a_walk_keeps_what_an_edit_leaves(rt: HostRuntime) -> Result<(), Fail> {
         &[&none, &edited],
         &[&none, &other],
     )?;
+    assert_eq!(rt; last, 0);
+    Ok(())
+}
+
+// A page 1 of 512 bytes that is a leaf of the schema's tree with one entry: a table `t` whose root is page 2.
+fn one_entry() -> [u8; 512] {
+    let mut page = [0u8; 512];
+    page[100..110].copy_from_slice(&[13, 0, 0, 0, 1, 1, 240, 0, 1, 240]);
+    page[496..].copy_from_slice(&[
+        14, 1, 6, 23, 15, 15, 1, 0, 116, 97, 98, 108, 101, 116, 116, 2,
+    ]);
+    page
+}
+
+/// How many entries the schema has at the last of three moments of two pages, of which the first two have the same pages and one
+/// entry.
+fn entries_at_last<'a>(
+    rt: &impl Abort,
+    alloc: Global,
+    first: &[&'a [u8]],
+    other: &[&'a [u8]],
+) -> Result<usize, Fail> {
+    assert!(rt; first.len() == 2);
+    assert!(rt; other.len() == 2);
+    let utf8 = Encoding::Utf8;
+    let pages = Sheets::new(512, first);
+    let mut walk = SchemaWalk::start(alloc, &pages, &[1, 2], 512, utf8)?;
+    assert_eq!(rt; walk.schema().entries().len(), 1);
+    walk.advance(&pages, &[], 512, utf8)?;
+    assert_eq!(rt; walk.schema().entries().len(), 1);
+    walk.advance(&Sheets::new(512, other), &[0, 1], 512, utf8)?;
+    Ok(walk.schema().entries().len())
+}
+
+#[test]
+fn a_schema_is_kept_until_its_pages_change(rt: HostRuntime) -> Result<(), Fail> {
+    let none = [0u8; 512];
+    let page = one_entry();
+    let last = entries_at_last(&rt, rt.alloc(), &[&page, &none], &[&none, &none])?;
     assert_eq!(rt; last, 0);
     Ok(())
 }

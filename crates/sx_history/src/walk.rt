@@ -8,8 +8,10 @@ ghost use Rattle.sx_history.specs.Standing.{Covers, IfStanding, IsStanding, Stan
 
 use crate::gathering::history;
 use crate::listing::History;
-use crate::marks::mark_on;
+use crate::marks::{mark_again, mark_on, marks_fit};
+use crate::setting::{Setting, same_setting};
 use crate::steady::all_steady;
+use crate::views::{look_again, views_of};
 use std::alloc::{AllocError, Global};
 use std::marker::Model;
 use sx_base::Pages;
@@ -30,14 +32,6 @@ pub struct HistoryWalk<'a> {
     chains: Vec<bool>,
     // Whether all this is that of the moment: not so where memory ran out on the way to it.
     stands: bool,
-}
-
-/// The size of a moment in pages, how many bytes of a page are in use, and the root of the tree.
-#[derive(Clone, Copy, Debug, PartialEq, Eq)]
-struct Setting {
-    size: u32,
-    usable: u32,
-    root: u32,
 }
 
 impl<'a> Model for HistoryWalk<'a> {
@@ -153,7 +147,7 @@ impl<'a> HistoryWalk<'a> {
             look_again(pages, &self.numbers, changed, &mut self.views);
             return Ok(());
         }
-        let fits = marks_fit(self.stands, &self.setting, usable);
+        let fits = marks_fit(self.stands, self.setting.usable, usable);
         self.stands = false;
         look_again(pages, &self.numbers, changed, &mut self.views);
         mark_again(
@@ -230,99 +224,4 @@ fn stands_still<'a, P: Pages<'a>>(
         return Ok(false);
     }
     Ok(true)
-}
-
-/// Whether two settings are the same.
-fn same_setting(before: &Setting, now: &Setting) -> bool
-    ensures { IsTrue result → before.now ≡ now.now }
-{
-    before == now
-}
-
-/// Whether the marks of the moment before serve on at one with so many usable bytes.
-fn marks_fit(stands: bool, before: &Setting, usable: u32) -> bool
-    ensures { IsTrue result → (stands ≡ true) × (before.now.usable ≡ usable) }
-{
-    stands && before.usable == usable
-}
-
-/// Marks on, once some pages changed; all over, where the marks don't serve on.
-fn mark_again(
-    alloc: Global,
-    numbers: &[u32],
-    views: &[Option<&[u8]>],
-    fits: bool,
-    setting: &Setting,
-    changed: &[u32],
-    nodes: &mut Vec<bool>,
-    chains: &mut Vec<bool>,
-) -> Result<(), AllocError>
-    requires rising { IsStrictlyIncreasing numbers.now }
-    requires views { length views.now ≡ length numbers.now }
-    requires nodes { length nodes.old.items ≡ length numbers.now }
-    requires chains { length chains.old.items ≡ length numbers.now }
-    requires ranks { All (λ rank. rank < length numbers.now) changed.now }
-    requires least { 480 ≤ setting.now.usable }
-    requires whole { AreWhole setting.now.usable (map option_copied views.now) }
-    requires named { fits ≡ true → AreNamedBut numbers.now (map option_copied views.now) setting.now.usable nodes.old.items chains.old.items changed.now }
-    requires linked { fits ≡ true → AreLinkedBut numbers.now (map option_copied views.now) chains.old.items changed.now }
-    ensures nodes { length nodes.new.items ≡ length numbers.now }
-    ensures chains { length chains.new.items ≡ length numbers.now }
-    ensures marked { OnOk result (AreMarked numbers.now (map option_copied views.now) setting.now.usable setting.now.root nodes.new.items chains.new.items) }
-{
-    if !fits {
-        clear(nodes);
-        clear(chains);
-    }
-    mark_on(
-        alloc,
-        numbers,
-        views,
-        setting.usable,
-        setting.root,
-        changed,
-        nodes,
-        chains,
-    )
-}
-
-/// Takes all marks away.
-fn clear(marks: &mut Vec<bool>)
-    ensures { marks.new.items ≡ replicate (length marks.old.items) false }
-{
-    marks.fill(false);
-}
-
-/// The view of each of these pages.
-fn views_of<'a, P: Pages<'a>>(
-    alloc: Global,
-    pages: &P,
-    numbers: &[u32],
-) -> Result<Vec<Option<&'a [u8]>>, AllocError>
-    ensures { IfOk result (λ views. map option_copied views.items ≡ map (P.view pages.now) numbers.now) }
-{
-    let mut views = Vec::with_capacity(alloc, numbers.len())?;
-    for number in numbers {
-        views.push(pages.page(*number))?;
-    }
-    Ok(views)
-}
-
-/// Takes the view of each page whose rank is listed anew.
-fn look_again<'a, P: Pages<'a>>(
-    pages: &P,
-    numbers: &[u32],
-    changed: &[u32],
-    views: &mut Vec<Option<&'a [u8]>>,
-)
-    requires views { length views.old.items ≡ length numbers.now }
-    requires ranks { All (λ rank. rank < length numbers.now) changed.now }
-    requires stand { StandBut changed.now numbers.now (map option_copied views.old.items) (P.view pages.now) }
-    ensures looked { map option_copied views.new.items ≡ map (P.view pages.now) numbers.now }
-    ensures views { length views.new.items ≡ length numbers.now }
-{
-    for rank in changed {
-        let rank = *rank as usize;
-        views[rank] = pages.page(numbers[rank]);
-    }
 }

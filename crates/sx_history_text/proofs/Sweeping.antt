@@ -16,6 +16,9 @@ use Rattle.sx_moment.specs.Turns.{is_among}
 use Rattle.sx_moment.specs.Views.{bytes_of, view_of}
 use Rattle.sx_moment.proofs.Numbered.{among_at, among_contains}
 use Rattle.sx_history_text.specs.Trees.{IsAt, IsBehind, Says}
+use Rattle.sx_history_text.specs.Schemas.{AreInStep, HasViews, IsReadBehind, TellsSchema}
+use Rattle.sx_history.specs.Schemas.{IsSchemaAt, WalkedSchema}
+use Rattle.sx_bytes.specs.declared.encoding.Encoding.{Encoding}
 
 pub covered : (case : Gathered) (moment : Moment) (numbers : List ℕ) → HoldViewed case numbers → IsTrue (is_moment case moment) → Covers numbers (view_of case moment)
 covered case moment numbers held is number some = among_contains numbers number (held moment is number some)
@@ -77,3 +80,37 @@ behind_now before now rowid walk case numbers settled there at =
         views_are = at.views_are ∙ ap (λ m. map (view_of before.case m) before.numbers) (sym moment) ∙ ap (λ c. map (view_of c (moment_at now.case (now.settled - 1))) before.numbers) (sym case) ∙ ap (map (view_of now.case (moment_at now.case (now.settled - 1)))) (sym numbers);
       },
     )
+
+-- ---- schemas
+
+-- a walk over schemas that stands at a moment has its schema
+pub tells_there : (case : Gathered) (moment : Moment) (numbers : List ℕ) (usable : ℕ) (encoding : Encoding) (walk : WalkedSchema) → walk.numbers ≡ numbers
+    → IsSchemaAt (size_at case moment) (view_of case moment) usable encoding walk → TellsSchema case moment numbers usable encoding walk
+tells_there case moment numbers usable encoding walk numbers_are at =
+    record {
+      stands = record { numbers_are = numbers_are; views_are = at.views ∙ ap (map (view_of case moment)) numbers_are };
+      entries = at.entries;
+    }
+
+-- once the moment in hand is settled, the walk over schemas that stands there is behind
+pub read_behind : (before now : Swept) (walk : WalkedSchema) → now.case ≡ before.case → now.numbers ≡ before.numbers → now.settled ≡ before.place + 1
+    → slice_get (moments_of before.case) before.place ≡ Some before.moment → HasViews before.case before.moment before.numbers walk → IsReadBehind now (Some walk)
+read_behind before now walk case numbers settled there at =
+    let place : now.settled - 1 ≡ before.place = omega (arith, settled) in
+    let some : 1 ≤ now.settled = omega (arith, settled) in
+    let moment : moment_at now.case (now.settled - 1) ≡ before.moment =
+    ap (λ n. moment_at now.case n) place ∙ ap (λ c. moment_at c before.place) case ∙ get_or_from_slice_get (moments_of before.case) before.place before.moment File there in (
+      some,
+      record {
+        numbers_are = at.numbers_are ∙ sym numbers;
+        views_are = at.views_are ∙ ap (λ m. map (view_of before.case m) before.numbers) (sym moment) ∙ ap (λ c. map (view_of c (moment_at now.case (now.settled - 1))) before.numbers) (sym case) ∙ ap (map (view_of now.case (moment_at now.case (now.settled - 1)))) (sym numbers);
+      },
+    )
+
+-- at one place of one case there is one moment
+pub same_moment : (one other : Swept) → AreInStep one other → slice_get (moments_of one.case) one.place ≡ Some one.moment
+    → slice_get (moments_of other.case) other.place ≡ Some other.moment → other.moment ≡ one.moment
+same_moment one other step here there =
+    let same : Some other.moment ≡ Some one.moment =
+    sym there ∙ ap (λ c. slice_get (moments_of c) other.place) step.case ∙ ap (slice_get (moments_of one.case)) step.place ∙ here in
+    cc

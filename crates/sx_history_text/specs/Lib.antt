@@ -2,3 +2,4 @@ pub mod Histories
 pub mod Rest
 pub mod Moments
 pub mod Trees
+pub mod Schemas

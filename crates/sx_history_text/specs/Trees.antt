@@ -6,11 +6,14 @@ use Rattle.sx_history.specs.Standing.{Walk}
 use Rattle.sx_moment.specs.Gathered.{Gathered, size_at}
 use Rattle.sx_moment.specs.Sweep.{Swept, moment_at}
 use Rattle.sx_moment.specs.Views.{view_of}
+use Rattle.sx_schema.specs.Entries.{Entry}
 
--- the moments of a case as far as they were gone over, and the rowid that is looked for
+-- the moments of a case as far as they were gone over, the rowid that is looked for, and the entries of the schema that was read
+-- last, if one was
 pub record Tracked : Type 0 where
   pub swept : Swept
   pub rowid : ℤ
+  pub entries : Option (List Entry)
 
 -- the walk over trees stands at a moment
 pub record IsAt (case : Gathered) (moment : Moment) (numbers : List ℕ) (rowid : ℤ) (walk : Walk) : Type 0 where

@@ -4,6 +4,7 @@
 mod lack;
 mod moment_lines;
 mod row_lines;
+mod schemas;
 mod texts;
 mod trees;
 

@@ -50,6 +50,8 @@ fn a_moment_is_told_by_its_rows_or_by_what_it_lacks(rt: HostRuntime) -> Result<(
     assert!(rt; case.header().page_size == 512);
     let mut trees = TreeHistories::new(alloc, &case, 1)?;
     assert_eq!(rt; trees.moment(), Moment::File);
+    trees.read_schema(512, Encoding::Utf8)?;
+    assert!(rt; trees.schema().is_some());
     let history = trees.history(512, 2)?;
     let rows = RowLines::new(
         alloc,

@@ -1,55 +1,66 @@
 //! What the trees of a table hold under a rowid, moment after moment.
 ghost use Rattle.std.specs.Prelude.{◌≡◌, ◌↔◌, ◌+◌, ◌-◌, ◌<◌, ◌≤◌, IsTrue, IfOk, OnOk, Some, false, true, length, slice_get};
+ghost use Rattle.std.specs.Option.{option_map};
 ghost use Rattle.sx_history.specs.Given.{faults_by, items_by};
 ghost use Rattle.sx_history.specs.History.{faults_of, found_of};
 ghost use Rattle.sx_moment.specs.Gathered.{is_moment, moments_of, size_at};
 ghost use Rattle.sx_moment.specs.Sweep.{GoesOn, moment_at};
 ghost use Rattle.sx_moment.specs.Views.{view_of};
+ghost use Rattle.sx_schema.specs.Entries.{schema_of};
+ghost use Rattle.sx_schema.specs.Given.{entries_by};
 ghost use Rattle.sx_history_text.specs.Trees.{IsAt, IsBehind, Says};
 
+use crate::schemas::Schemas;
 use std::alloc::{AllocError, Global};
 use std::marker::Model;
 use sx_base::{Moment, Pages};
+use sx_bytes::Encoding;
 use sx_history::{History, HistoryWalk};
 use sx_moment::{Case, Snapshot, Sweep};
+use sx_schema::Schema;
 
-/// What the trees of a table hold under a rowid at the moments of a case, from the first on.
+/// What the trees of a table hold under a rowid at the moments of a case, from the first on, and the schemas that name the tables.
 ///
-/// What a tree held at the moment before is kept as long as [`HistoryWalk`] shows that it stands; at a moment without a tree
-/// nothing is looked at, and what changes there counts as changed at the next.
+/// What a tree held at the moment before is kept as long as [`HistoryWalk`] shows that it stands, and the schema as long as
+/// [`SchemaWalk`](sx_history::SchemaWalk) does; at a moment without a tree or a schema nothing is looked at, and what changes
+/// there counts as changed at the next.
 #[derive(Drop)]
 pub struct TreeHistories<'c, 'a> {
     alloc: Global,
     sweep: Sweep<'c, 'a>,
     walk: Option<HistoryWalk<'a>>,
     rowid: i64,
+    schemas: Schemas<'c, 'a>,
 }
 
 impl<'c, 'a> Model for TreeHistories<'c, 'a> {
+    ghost use Rattle.sx_history_text.specs.Schemas.{AreInStep};
     ghost use Rattle.sx_history_text.specs.Trees.{IsBehind, Tracked};
 
     ghost Value = { Tracked };
 
-    ghost view = { λ it. record { swept = it.sweep; rowid = it.rowid } };
+    ghost view = { λ it. record { swept = it.sweep; rowid = it.rowid; entries = it.schemas.entries } };
 
-    ghost invariant = { λ it. IsBehind it.sweep it.rowid it.walk };
+    ghost invariant = { λ it. IsBehind it.sweep it.rowid it.walk × AreInStep it.sweep it.schemas.swept };
 }
 
 impl<'c, 'a> TreeHistories<'c, 'a> {
     /// The first moment of a case, and the rowid that is looked for.
     ///
-    /// The cost and the memory are those of [`Case::sweep`]. It answers `AllocError` where memory runs out.
+    /// The cost and the memory are twice those of [`Case::sweep`]. It answers `AllocError` where memory runs out.
     pub fn new(alloc: Global, case: &'c Case<'a>, rowid: i64) -> Result<Self, AllocError>
         ensures case { IfOk result (λ it. it.swept.case ≡ case.entry.now) }
         ensures place { IfOk result (λ it. it.swept.place ≡ 0) }
         ensures rowid { IfOk result (λ it. it.rowid ≡ rowid) }
     {
         let sweep = case.sweep(alloc)?;
+        let schemas = Schemas::new(alloc, case)?;
         Ok(TreeHistories {
             alloc,
             sweep,
             walk: None,
             rowid,
+            schemas,
         })
     }
 
@@ -69,7 +80,7 @@ impl<'c, 'a> TreeHistories<'c, 'a> {
         self.sweep.snapshot()
     }
 
-    /// Goes to the next moment, and says whether there is one: at the last it changes nothing. The cost is that of
+    /// Goes to the next moment, and says whether there is one: at the last it changes nothing. The cost is twice that of
     /// [`Sweep::next`], and it takes no memory.
     pub fn next(&mut self) -> bool
         ensures more { IsTrue result ↔ (self.old.swept.place + 1 < length (moments_of self.old.swept.case)) }
@@ -77,7 +88,34 @@ impl<'c, 'a> TreeHistories<'c, 'a> {
         ensures last { result ≡ false → self.new.swept ≡ self.old.swept }
         ensures rowid { self.new.rowid ≡ self.old.rowid }
     {
-        self.sweep.next()
+        let more = self.sweep.next();
+        self.schemas.next();
+        more
+    }
+
+    /// Reads the schema of the moment in hand, over pages with so many usable bytes, from 480 to the page size, and with this
+    /// encoding of texts, unless that of the moment before stands.
+    ///
+    /// The cost is that of [`SchemaWalk::start`](sx_history::SchemaWalk::start) at the first one, and then that of
+    /// [`SchemaWalk::advance`](sx_history::SchemaWalk::advance). It answers `AllocError` where memory runs out.
+    pub fn read_schema(&mut self, usable: u32, encoding: Encoding) -> Result<(), AllocError>
+        requires least { 480 ≤ usable }
+        requires within { usable ≤ self.old.swept.case.header.page_size }
+        requires small { self.old.swept.case.header.page_size ≤ 65536 }
+        ensures entries { OnOk result (self.new.entries ≡ Some (schema_of (size_at self.old.swept.case self.old.swept.moment) (view_of self.old.swept.case self.old.swept.moment) usable encoding)) }
+        ensures swept { self.new.swept ≡ self.old.swept }
+        ensures rowid { self.new.rowid ≡ self.old.rowid }
+    {
+        let _moment = self.sweep.moment();
+        let _same = self.schemas.moment();
+        self.schemas.read(usable, encoding)
+    }
+
+    /// The schema that was read last, if one was.
+    pub fn schema(&self) -> Option<&Schema>
+        ensures { option_map (λ schema. entries_by schema.now) result ≡ self.now.entries }
+    {
+        self.schemas.schema()
     }
 
     /// What the tree with this root, a page number, holds under the rowid at the moment in hand, over pages with so many usable

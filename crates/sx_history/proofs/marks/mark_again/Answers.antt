@@ -1,8 +1,8 @@
 use Rattle.std.proofs.Common.{◌∙◌, ap, sym, subst, map, option_copied, length}
 use Rattle.sx_history.specs.Marks.{AreLinkedBut}
 use Rattle.sx_history.proofs.Keeping.{none_linked}
-use Rattle.sx_history.proofs.walk.mark_again.Goals as goal
-use Rattle.sx_history.proofs.walk.mark_again.Goals.{then-not-fits, else-not-fits}
+use Rattle.sx_history.proofs.marks.mark_again.Goals as goal
+use Rattle.sx_history.proofs.marks.mark_again.Goals.{then-not-fits, else-not-fits}
 
 pub mark_on-requires-clause-linked : goal.mark_on-requires-clause-linked
 mark_on-requires-clause-linked c =

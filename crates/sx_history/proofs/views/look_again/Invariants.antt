@@ -1,6 +1,6 @@
 use Rattle.std.proofs.Common.{◌≡◌, map, fold, take, length, option_copied}
 use Rattle.sx_history.proofs.Looking.{looked}
-use Rattle.sx_history.proofs.walk.look_again.Given as goal
+use Rattle.sx_history.proofs.views.look_again.Given as goal
 
 abbrev pub invariant-loop-rank : goal.invariant-loop-rank
 invariant-loop-rank g l = record {

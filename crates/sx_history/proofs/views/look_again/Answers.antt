@@ -2,7 +2,7 @@ use Rattle.std.proofs.Common.{◌∙◌, ap, option_copied, get_or, map, fold, t
 use Rattle.std.proofs.lemmas.List.{length-set, length-map}
 use Rattle.sx_history.proofs.Looking.{look_more, looked_all}
 use Rattle.sx_history.proofs.Looking.{looked}
-use Rattle.sx_history.proofs.walk.look_again.Goals as goal
+use Rattle.sx_history.proofs.views.look_again.Goals as goal
 
 pub loop-rank-preserved : goal.loop-rank-preserved
 loop-rank-preserved g c =
