@@ -16,10 +16,10 @@ use Rattle.sx_history.specs.declared.listing.History.{History}
 use Rattle.sx_history.specs.Given.{faults_by, items_by}
 use Rattle.sx_history.specs.History.{faults_of, found_of}
 use Rattle.sx_history.specs.Leaves.{IsLeaf, IsLocal, StaysLeaf}
-use Rattle.sx_history.specs.Closed.{AllNamed, IsClosed, IsLinked, IsNamed, IsSteady}
+use Rattle.sx_history.specs.Closed.{AllNamed, AreAlike, IsClosed, IsLinked, IsNamed, IsSteady}
 use Rattle.sx_history.specs.Marks.{AreLinkedBut, AreMarked, AreNamedBut, AreWhole, IsNoted, IsWhole, is_marked, view_at}
 use Rattle.sx_history.specs.Standing.{AreSteady, Covers, IfStanding, IsStanding, IsSteadyPage, IsWatched, StandBut}
-use Rattle.sx_history.proofs.Trees.{IsLaw, read_is}
+use Rattle.sx_history.proofs.Trees.{read_is}
 use Rattle.sx_history.proofs.Says.{faults_same, found_same}
 
 -- ---- a leaf whose cells hold their payloads names no page
@@ -191,7 +191,7 @@ module _ (numbers : List ℕ) (views : List (Option (List ℕ))) (usable root : 
           linked_at at.0 number at.1 at.2 at.3 page is;
     }
 
-    pub law : IsLaw usable root rowid kept.view next (IsNoted numbers nodes) (IsNoted numbers chains)
+    pub law : AreAlike usable root rowid kept.view next (IsNoted numbers nodes) (IsNoted numbers chains)
     law = record {
       least = kept.least;
       room = room_of usable kept.view kept.whole;
@@ -251,7 +251,7 @@ module _ (numbers : List ℕ) (views : List (Option (List ℕ))) (size usable ro
     (kept : IsStanding numbers views size usable root rowid history nodes chains) (next : ℕ → Option (List ℕ)) (changed : List ℕ) (covers : Covers numbers next)
     (stand : StandBut changed numbers views next) (whole : (number : ℕ) → IsWhole usable (next number))
     (steady : AreSteady usable rowid numbers views next nodes chains changed) where
-  same_law : IsLaw usable root rowid kept.watched.view next (IsNoted numbers nodes) (IsNoted numbers chains)
+  same_law : AreAlike usable root rowid kept.watched.view next (IsNoted numbers nodes) (IsNoted numbers chains)
   same_law = law numbers views usable root nodes chains kept.watched next changed covers stand whole rowid steady
 
   pub found_still : items_by history ≡ found_of size next usable root rowid

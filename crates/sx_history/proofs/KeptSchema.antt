@@ -1,6 +1,5 @@
 -- The schema that is kept of a moment is that of the next, where no page that changed may be one of its tree.
-use Rattle.std.proofs.Common.{◌≡◌, ℕ, ℤ, pos, ◌<◌, ◌≤◌, inl, inr, Bool, true, false, List, length, map, get_or, Option, is_some, refl, sym, ap, subst, ◌∙◌, Contains}
-use Rattle.std.proofs.lemmas.List.{get_or_default}
+use Rattle.std.proofs.Common.{◌≡◌, ℕ, ℤ, pos, ◌<◌, ◌≤◌, inl, inr, Bool, true, false, List, length, map, get_or, Option, sym, ap, subst, ◌∙◌, Contains}
 use Rattle.sx_bytes.specs.declared.encoding.Encoding.{Encoding}
 use Rattle.sx_schema.specs.declared.listing.Schema.{Schema}
 use Rattle.sx_schema.specs.Entries.{schema_of}

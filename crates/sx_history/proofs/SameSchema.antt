@@ -1,5 +1,6 @@
 -- The schema stays as it is where no page of the tree at page 1 changes.
-use Rattle.std.proofs.Common.{◌≡◌, ℕ, ℤ, zero, suc, ◌+◌, List, [], ◌∷◌, ◌++◌, Option, Some, None, Result, Ok, Err, refl, sym, ap, subst, ◌∙◌}
+use Rattle.std.proofs.Common.{◌≡◌, ℕ, ℤ, zero, suc, ◌+◌, Bool, List, [], ◌∷◌, ◌++◌, Option, Result, Ok, Err, refl, sym, ap, subst, ◌∙◌}
+use Rattle.std.specs.Prelude.{IsTrue}
 use Rattle.std.specs.List.{flat_map, filter_map, cons_option, AllByRecursion}
 use Rattle.std.proofs.lemmas.List.Elements.{filter_map-append}
 use Rattle.sx_bytes.specs.declared.encoding.Encoding.{Encoding}
@@ -15,10 +16,11 @@ use Rattle.sx_tree.specs.Rows.{opened, part_items, page_items, items_of, rows_of
 use Rattle.sx_tree.proofs.Ways.{open_is}
 use Rattle.sx_schema.specs.Entries.{Entry, item_entry, row_entry, schema_of}
 use Rattle.sx_history.specs.Reading.{item_row}
-use Rattle.sx_history.proofs.Trees.{IsLaw, count_same}
+use Rattle.sx_history.specs.Closed.{AreAlike}
+use Rattle.sx_history.proofs.Trees.{count_same}
 use Rattle.sx_history.proofs.Says.{PartStands, all_stand, opened_same}
 
-module _ (size usable : ℕ) (rowid : ℤ) (encoding : Encoding) (view next : ℕ → Option (List ℕ)) (Node Chain : ℕ → Type 0) (law : IsLaw usable 1 rowid view next Node Chain)
+module _ (size usable : ℕ) (rowid : ℤ) (encoding : Encoding) (view next : ℕ → Option (List ℕ)) (Node Chain : ℕ → Type 0) (law : AreAlike usable 1 rowid view next Node Chain)
     (still : (n : ℕ) → Node n → next n ≡ view n) where
   abbrev make_before : RowItem → Option Entry
   make_before = item_entry size view usable encoding
@@ -74,3 +76,10 @@ module _ (size usable : ℕ) (rowid : ℤ) (encoding : Encoding) (view next : �
   schema_same =
       subst (λ most. AreSame (rows_of (tree_in size view usable 1)) (items_of (tree_in size next usable 1) (most + 1) 1))
       (sym (count_same size usable 1 rowid view next Node Chain law)) (items_same (held_count (tree_in size view usable 1) + 1) 1 law.at_root)
+
+-- what is read of the pages of the tree at page 1 is the schema
+pub schema_by : (size usable : ℕ) (rowid : ℤ) (encoding : Encoding) (view next : ℕ → Option (List ℕ)) (node chain : ℕ → Bool)
+    → AreAlike usable 1 rowid view next (λ n. IsTrue (node n)) (λ n. IsTrue (chain n)) → ((n : ℕ) → IsTrue (node n) → next n ≡ view n)
+    → schema_of size next usable encoding ≡ schema_of size view usable encoding
+schema_by size usable rowid encoding view next node chain alike still =
+    schema_same size usable rowid encoding view next (λ n. IsTrue (node n)) (λ n. IsTrue (chain n)) alike still

@@ -29,10 +29,10 @@ use Rattle.sx_row.specs.Rows.{RowContent, row_of, page_row, node_row, cell_row, 
 use Rattle.sx_history.specs.declared.found.Found.{Found}
 use Rattle.sx_history.specs.History.{item_found, is_faulty, row_found, row_faulty, found_of, faults_of}
 use Rattle.sx_history.specs.Leaves.{local_row, IsLocal, IsLeaf, LeafSays, SaySame, StaysLeaf, leaf_found, leaf_faults}
-use Rattle.sx_history.specs.Closed.{IsNamed}
+use Rattle.sx_history.specs.Closed.{AreAlike, IsNamed}
 use Rattle.sx_history.specs.Reading.{item_row}
 use Rattle.sx_history.proofs.SameRows.{held_same, chain_same, payload_same, local_is}
-use Rattle.sx_history.proofs.Trees.{IsLaw, all_append, all_front, all_back, read_is, opened_by, count_same}
+use Rattle.sx_history.proofs.Trees.{all_append, all_front, all_back, read_is, opened_by, count_same}
 
 -- ---- the row of a cell
 
@@ -151,7 +151,7 @@ module _ (size : ℕ) (view : ℕ → Option (List ℕ)) (usable : ℕ) (rowid :
 
 -- ---- two trees
 
-module _ (size usable root : ℕ) (rowid : ℤ) (view next : ℕ → Option (List ℕ)) (Node Chain : ℕ → Type 0) (law : IsLaw usable root rowid view next Node Chain) where
+module _ (size usable root : ℕ) (rowid : ℤ) (view next : ℕ → Option (List ℕ)) (Node Chain : ℕ → Type 0) (law : AreAlike usable root rowid view next Node Chain) where
   abbrev make_before : RowItem → Option Found
   make_before = item_found size view usable rowid
 
@@ -368,3 +368,13 @@ module _ (size usable root : ℕ) (rowid : ℤ) (view next : ℕ → Option (Lis
   pub faults_same : faults_of size next usable root ≡ faults_of size view usable root
   unfolding faults_of
   faults_same = rows_same.1
+
+-- ---- the same with the pages of the two trees as sets
+
+pub found_by_views : (size usable root : ℕ) (rowid : ℤ) (view next : ℕ → Option (List ℕ)) (node chain : ℕ → Bool)
+    → AreAlike usable root rowid view next (λ n. IsTrue (node n)) (λ n. IsTrue (chain n)) → found_of size next usable root rowid ≡ found_of size view usable root rowid
+found_by_views size usable root rowid view next node chain alike = found_same size usable root rowid view next (λ n. IsTrue (node n)) (λ n. IsTrue (chain n)) alike
+
+pub faults_by_views : (size usable root : ℕ) (rowid : ℤ) (view next : ℕ → Option (List ℕ)) (node chain : ℕ → Bool)
+    → AreAlike usable root rowid view next (λ n. IsTrue (node n)) (λ n. IsTrue (chain n)) → faults_of size next usable root ≡ faults_of size view usable root
+faults_by_views size usable root rowid view next node chain alike = faults_same size usable root rowid view next (λ n. IsTrue (node n)) (λ n. IsTrue (chain n)) alike

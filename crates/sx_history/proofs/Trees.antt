@@ -16,7 +16,7 @@ use Rattle.sx_tree.specs.Rows.{opened, page_in, root_kind, view_kind, kind_in}
 use Rattle.sx_tree.proofs.Leaves.{leaf_none}
 use Rattle.sx_history.specs.declared.found.Found.{Found}
 use Rattle.sx_history.specs.Leaves.{LeafSays, StaysLeaf}
-use Rattle.sx_history.specs.Closed.{IsNamed, AllNamed, IsClosed, IsSteady}
+use Rattle.sx_history.specs.Closed.{AreAlike, IsNamed, AllNamed}
 use Rattle.sx_history.proofs.SameRows.{filter_same, held_same}
 
 -- ---- lists
@@ -126,16 +126,7 @@ stays_kind usable number rowid None None same = absurd same
 
 -- ---- two trees
 
--- what is known of the two, at the same root with the same usable bytes
-pub record IsLaw (usable root : ℕ) (rowid : ℤ) (view next : ℕ → Option (List ℕ)) (Node Chain : ℕ → Type 0) : Type 0 where
-  pub least : 480 ≤ usable
-  pub room : (number : ℕ) (page : List ℕ) → view number ≡ Some page → usable ≤ length page
-  pub room_now : (number : ℕ) (page : List ℕ) → next number ≡ Some page → usable ≤ length page
-  pub closed : IsClosed view usable Node Chain
-  pub steady : IsSteady usable rowid view next Node Chain
-  pub at_root : Node root
-
-module _ (size usable root : ℕ) (rowid : ℤ) (view next : ℕ → Option (List ℕ)) (Node Chain : ℕ → Type 0) (law : IsLaw usable root rowid view next Node Chain) where
+module _ (size usable root : ℕ) (rowid : ℤ) (view next : ℕ → Option (List ℕ)) (Node Chain : ℕ → Type 0) (law : AreAlike usable root rowid view next Node Chain) where
   abbrev before : Tree
   before = tree_in size view usable root
 

@@ -1,5 +1,5 @@
 -- Pages that a walk over a tree may go to: into some as b-tree pages, over others as overflow pages.
-use Rattle.std.specs.Prelude.{◌≡◌, ◌⊎◌, ℕ, ℤ, List, Option, Some, is_some, Ok}
+use Rattle.std.specs.Prelude.{◌≡◌, ◌⊎◌, ℕ, ℤ, ◌≤◌, List, length, Option, Some, is_some, Ok}
 use Rattle.std.specs.List.{All}
 use Rattle.sx_node.specs.Nodes.{NodePage, node_of}
 use Rattle.sx_node.specs.declared.targets.NodeTarget.{NodeTarget}
@@ -34,3 +34,13 @@ pub record IsSteady (usable : ℕ) (rowid : ℤ) (view next : ℕ → Option (Li
   pub held : (number : ℕ) → is_some (next number) ≡ is_some (view number)
   pub node : (number : ℕ) → Node number → (next number ≡ view number) ⊎ StaysLeaf usable number rowid (view number) (next number)
   pub chain : (number : ℕ) → Chain number → next number ≡ view number
+
+-- over the pages that a walk from a root may go to, two lists of views are alike: the pages have all usable bytes, and what changed
+-- is steady
+pub record AreAlike (usable root : ℕ) (rowid : ℤ) (view next : ℕ → Option (List ℕ)) (Node Chain : ℕ → Type 0) : Type 0 where
+  pub least : 480 ≤ usable
+  pub room : (number : ℕ) (page : List ℕ) → view number ≡ Some page → usable ≤ length page
+  pub room_now : (number : ℕ) (page : List ℕ) → next number ≡ Some page → usable ≤ length page
+  pub closed : IsClosed view usable Node Chain
+  pub steady : IsSteady usable rowid view next Node Chain
+  pub at_root : Node root

@@ -4,6 +4,7 @@
 
 mod found;
 mod gathering;
+mod law;
 mod leaf;
 mod listing;
 mod marks;
@@ -16,6 +17,7 @@ mod walk;
 
 pub use found::Found;
 pub use gathering::history;
+pub use law::{answers_by_views, schema_by_views};
 pub use listing::History;
 pub use schemas::SchemaWalk;
 pub use sx_row::RowFault;

@@ -7,7 +7,7 @@ use Rattle.std.proofs.lemmas.Option.{get_or_from_slice_get}
 use Rattle.std.specs.Prelude.{slice_get, Some, ◌+◌, ◌≤◌}
 use Rattle.sx_base.specs.declared.moment.Moment.{Moment}
 use Rattle.sx_base.specs.declared.moment.Moment.TheVariants.{File}
-use Rattle.sx_history.specs.History.{faults_of, found_of}
+use Rattle.sx_history.specs.History.{found_of}
 use Rattle.sx_history.specs.Standing.{Covers, StandBut, StandsAt, Walk}
 use Rattle.sx_history.proofs.Keeping.{map_at}
 use Rattle.sx_moment.specs.Gathered.{Gathered, is_moment, moments_of, size_at}

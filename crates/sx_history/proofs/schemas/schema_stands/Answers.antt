@@ -1,4 +1,4 @@
-use Rattle.std.proofs.Common.{◌≡◌, ◌∙◌, sym, ap, subst, map, option_copied, ℕ}
+use Rattle.std.proofs.Common.{◌∙◌, sym, ap, subst, map, option_copied, ℕ}
 use Rattle.sx_schema.specs.Entries.{schema_of}
 use Rattle.sx_history.specs.Marks.{IsWhole}
 use Rattle.sx_history.proofs.Keeping.{has_whole}

@@ -1,4 +1,4 @@
-use Rattle.std.proofs.Common.{◌≡◌, ◌∙◌, ℕ, None, get_or, map, option_copied, refl, sym, subst, arith}
+use Rattle.std.proofs.Common.{◌∙◌, None, get_or, map, option_copied, refl, sym, subst, arith}
 use Rattle.std.proofs.lemmas.List.{get_or_default}
 use Rattle.sx_history.specs.Marks.{is_marked, view_at}
 use Rattle.sx_history.specs.Schemas.{IsStillPage}
