@@ -1,6 +1,9 @@
 //! The text of a moment, over evidence that was written by hand.
+ghost use Rattle.std.specs.Prelude.{◌≡◌};
+
 use super::*;
 use std::alloc::Global;
+use std::process::Abort;
 use std::test::Fail;
 use sx_base::Moment;
 use sx_bytes::Encoding;
@@ -35,6 +38,34 @@ fn two_rows(alloc: Global) -> Result<Vec<u8>, Fail> {
     Ok(bytes)
 }
 
+/// Puts the lines of page 2's tree at the file's moment under the rowid 1, once its schema was read.
+fn tell_rows(rt: &impl Abort, alloc: Global, case: &Case<'_>, out: &mut Tray) -> Result<(), Fail>
+    requires { case.now.header.page_size ≡ 512 }
+{
+    let mut trees = TreeHistories::new(alloc, case, 1)?;
+    trees.read_schema(512, Encoding::Utf8)?;
+    assert!(rt; trees.schema().is_some());
+    let history = trees.history(512, 2)?;
+    let moment = trees.moment();
+    let snapshot = trees.snapshot();
+    let rows = RowLines::new(alloc, snapshot, moment, 512, Encoding::Utf8, None, history);
+    assert_eq!(rt;
+        write_lines(alloc, &mut MomentLines::Rows(rows), out),
+        Ok(())
+    );
+    assert!(rt; !trees.next());
+    Ok(())
+}
+
+/// Puts the line of a moment without the table.
+fn tell_lack(rt: &impl Abort, alloc: Global, out: &mut Tray) {
+    let mut lacking = MomentLines::Lacking {
+        moment: Moment::Commit(2),
+        lack: Lack::NoTable,
+    };
+    assert_eq!(rt; write_lines(alloc, &mut lacking, out), Ok(()));
+}
+
 #[test]
 fn a_moment_is_told_by_its_rows_or_by_what_it_lacks(rt: HostRuntime) -> Result<(), Fail> {
     let alloc = rt.alloc();
@@ -48,29 +79,9 @@ fn a_moment_is_told_by_its_rows_or_by_what_it_lacks(rt: HostRuntime) -> Result<(
     };
     let case = Case::gather(alloc, header, evidence)?;
     assert!(rt; case.header().page_size == 512);
-    let mut trees = TreeHistories::new(alloc, &case, 1)?;
-    assert_eq!(rt; trees.moment(), Moment::File);
-    trees.read_schema(512, Encoding::Utf8)?;
-    assert!(rt; trees.schema().is_some());
-    let history = trees.history(512, 2)?;
-    let rows = RowLines::new(
-        alloc,
-        trees.snapshot(),
-        Moment::File,
-        512,
-        Encoding::Utf8,
-        None,
-        history,
-    );
-    assert!(rt; !trees.next());
     let mut out = Tray::new(alloc, 1000, 7)?;
-    let mut lines = MomentLines::Rows(rows);
-    assert_eq!(rt; write_lines(alloc, &mut lines, &mut out), Ok(()));
-    let mut lacking = MomentLines::Lacking {
-        moment: Moment::Commit(2),
-        lack: Lack::NoTable,
-    };
-    assert_eq!(rt; write_lines(alloc, &mut lacking, &mut out), Ok(()));
+    tell_rows(&rt, alloc, &case, &mut out)?;
+    tell_lack(&rt, alloc, &mut out);
     let text = "0 row 1 NULL 'ann' 10\n0 rows 1 faults 1\n2 no table\n";
     assert_eq!(rt; out.taken(), text.as_bytes());
     Ok(())
