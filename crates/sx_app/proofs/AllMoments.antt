@@ -8,8 +8,7 @@ use Rattle.std.proofs.lemmas.Option.{slice_get_within, get_or_from_slice_get}
 use Rattle.sx_base.specs.declared.moment.Moment.{Moment}
 use Rattle.sx_lines.specs.Lines.{IsNextLine}
 use Rattle.sx_moment.specs.Gathered.{Gathered, moments_of}
-use Rattle.sx_moment.specs.Sweep.{GoesOn}
-use Rattle.sx_history_text.specs.Trees.{Tracked}
+use Rattle.sx_history_text.specs.Tracked.{Follows, Tracked}
 use Rattle.sx_app.specs.Histories.{histories_of, history_at, history_by, table_there}
 use Rattle.sx_app.specs.Owed.{Fails}
 use Rattle.sx_app.specs.Tables.{Table, MayLack}
@@ -78,45 +77,45 @@ later_next make moments place moment current first now line false none is made s
 
 -- the lines of the moments behind the one in hand
 abbrev behind : List ℕ → Tracked → List (List ℕ)
-behind name it = flat_map (history_at it.swept.case name it.rowid) (drop (it.swept.place + 1) (moments_of it.swept.case))
+behind name it = flat_map (history_at it.case name it.rowid) (drop (it.place + 1) (moments_of it.case))
 
 -- with the lines of the first moment of a case all are there
-pub first_all : (case : Gathered) (name : List ℕ) (rowid : ℤ) (first now : Tracked) (current : List (List ℕ)) → first.swept.case ≡ case → first.swept.place ≡ 0 → first.rowid ≡ rowid
-    → now.swept.case ≡ first.swept.case → now.swept.place ≡ first.swept.place → now.rowid ≡ first.rowid
-    → slice_get (moments_of first.swept.case) first.swept.place ≡ Some first.swept.moment
-    → current ≡ history_at first.swept.case name first.rowid first.swept.moment
+pub first_all : (case : Gathered) (name : List ℕ) (rowid : ℤ) (first now : Tracked) (current : List (List ℕ)) → first.case ≡ case → first.place ≡ 0 → first.rowid ≡ rowid
+    → now.case ≡ first.case → now.place ≡ first.place → now.rowid ≡ first.rowid
+    → slice_get (moments_of first.case) first.place ≡ Some first.moment
+    → current ≡ history_at first.case name first.rowid first.moment
     → current ++ behind name now ≡ histories_of case name rowid
 unfolding histories_of
 first_all case name rowid first now current case_is place_is rowid_is now_case now_place now_rowid there made =
-    let moment = first.swept.moment in
+    let moment = first.moment in
     let at : slice_get (moments_of case) 0 ≡ Some moment =
-    ap (λ c. slice_get (moments_of c) 0) (sym case_is) ∙ ap (slice_get (moments_of first.swept.case)) (sym place_is) ∙ there in
+    ap (λ c. slice_get (moments_of c) 0) (sym case_is) ∙ ap (slice_get (moments_of first.case)) (sym place_is) ∙ there in
     let lines : current ≡ history_at case name rowid moment =
     made ∙ ap (λ c. history_at c name first.rowid moment) case_is ∙ ap (λ r. history_at case name r moment) rowid_is in
-    ap (λ n. current ++ flat_map (history_at now.swept.case name now.rowid) (drop (n + 1) (moments_of now.swept.case))) (now_place ∙ place_is)
-    ∙ ap (λ r. current ++ flat_map (history_at now.swept.case name r) (drop 1 (moments_of now.swept.case))) (now_rowid ∙ rowid_is)
+    ap (λ n. current ++ flat_map (history_at now.case name now.rowid) (drop (n + 1) (moments_of now.case))) (now_place ∙ place_is)
+    ∙ ap (λ r. current ++ flat_map (history_at now.case name r) (drop 1 (moments_of now.case))) (now_rowid ∙ rowid_is)
     ∙ ap (λ c. current ++ flat_map (history_at c name rowid) (drop 1 (moments_of c))) (now_case ∙ case_is)
     ∙ all_there (history_at case name rowid) (moments_of case) moment current at lines
 
 -- the first line of the moment that was gone to was taken
 pub goes_next : (name : List ℕ) (before moved now : Tracked) (current first taken : List (List ℕ)) (line : List ℕ) (more : Bool)
-    → GoesOn before.swept moved.swept → moved.rowid ≡ before.rowid
-    → now.swept.case ≡ moved.swept.case → now.swept.place ≡ moved.swept.place → now.rowid ≡ moved.rowid
-    → current ≡ [] → slice_get (moments_of moved.swept.case) moved.swept.place ≡ Some moved.swept.moment
-    → first ≡ history_at moved.swept.case name moved.rowid moved.swept.moment → IsNextLine first taken line more
+    → Follows before moved → moved.rowid ≡ before.rowid
+    → now.case ≡ moved.case → now.place ≡ moved.place → now.rowid ≡ moved.rowid
+    → current ≡ [] → slice_get (moments_of moved.case) moved.place ≡ Some moved.moment
+    → first ≡ history_at moved.case name moved.rowid moved.moment → IsNextLine first taken line more
     → IsNextLine (current ++ behind name before) (taken ++ behind name now) line more
 goes_next name before moved now current first taken line more on rowid now_case now_place now_rowid none is made next =
-    let make = history_at moved.swept.case name moved.rowid in
-    let moments = moments_of moved.swept.case in
-    let there = later_next make moments moved.swept.place moved.swept.moment current first taken line more none is made
-    (history_some moved.swept.case name moved.rowid moved.swept.moment) next in
-    let old : flat_map make (drop moved.swept.place moments) ≡ behind name before =
+    let make = history_at moved.case name moved.rowid in
+    let moments = moments_of moved.case in
+    let there = later_next make moments moved.place moved.moment current first taken line more none is made
+    (history_some moved.case name moved.rowid moved.moment) next in
+    let old : flat_map make (drop moved.place moments) ≡ behind name before =
     ap (λ n. flat_map make (drop n moments)) on.place
-    ∙ ap (λ r. flat_map (history_at moved.swept.case name r) (drop (before.swept.place + 1) moments)) rowid
-    ∙ ap (λ c. flat_map (history_at c name before.rowid) (drop (before.swept.place + 1) (moments_of c))) on.case in
-    let new : flat_map make (drop (moved.swept.place + 1) moments) ≡ behind name now =
+    ∙ ap (λ r. flat_map (history_at moved.case name r) (drop (before.place + 1) moments)) rowid
+    ∙ ap (λ c. flat_map (history_at c name before.rowid) (drop (before.place + 1) (moments_of c))) on.case in
+    let new : flat_map make (drop (moved.place + 1) moments) ≡ behind name now =
     ap (λ n. flat_map make (drop (n + 1) moments)) (sym now_place)
-    ∙ ap (λ r. flat_map (history_at moved.swept.case name r) (drop (now.swept.place + 1) moments)) (sym now_rowid)
-    ∙ ap (λ c. flat_map (history_at c name now.rowid) (drop (now.swept.place + 1) (moments_of c))) (sym now_case) in
+    ∙ ap (λ r. flat_map (history_at moved.case name r) (drop (now.place + 1) moments)) (sym now_rowid)
+    ∙ ap (λ c. flat_map (history_at c name now.rowid) (drop (now.place + 1) (moments_of c))) (sym now_case) in
     subst (λ rest. IsNextLine (current ++ rest) (taken ++ behind name now) line more) old
-    (subst (λ rest. IsNextLine (current ++ flat_map make (drop moved.swept.place moments)) (taken ++ rest) line more) new there)
+    (subst (λ rest. IsNextLine (current ++ flat_map make (drop moved.place moments)) (taken ++ rest) line more) new there)

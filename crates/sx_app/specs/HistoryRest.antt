@@ -9,4 +9,4 @@ use Rattle.sx_app.specs.declared.histories.HistoryLines.{HistoryLines}
 abbrev pub histories_rest : HistoryLines → List (List ℕ)
 histories_rest rest =
     moment_rest rest.current
-    ++ flat_map (history_at rest.trees.swept.case rest.table.now rest.trees.rowid) (drop (rest.trees.swept.place + 1) (moments_of rest.trees.swept.case))
+    ++ flat_map (history_at rest.trees.case rest.table.now rest.trees.rowid) (drop (rest.trees.place + 1) (moments_of rest.trees.case))

@@ -25,9 +25,8 @@ use sx_moment::{Case, Snapshot};
 
 /// The lines of `history` that are still to come, moment by moment.
 ///
-/// At each moment the table is looked up and its text is read; the schema is read anew only where a page of its tree or an
-/// overflow page of its rows changed, and the table's tree is walked anew only where what is kept of the moment before doesn't
-/// show that it says the same of the rowid.
+/// At each moment the table is looked up and its text is read; the schema and the table's tree are read anew where [`TreeHistories`]
+/// doesn't know that what it told of the moment before stands.
 #[derive(Drop)]
 pub struct HistoryLines<'t, 'c, 'a> {
     alloc: Global,
@@ -97,9 +96,9 @@ fn moment_lines<'c, 'a>(
     trees: &mut TreeHistories<'c, 'a>,
     table: &str,
 ) -> Result<MomentLines<'c, 'a>, AllocError>
-    ensures lines { IfOk result (λ lines. moment_rest lines ≡ history_at trees.old.swept.case table.now trees.old.rowid trees.old.swept.moment) }
-    ensures case { trees.new.swept.case ≡ trees.old.swept.case }
-    ensures place { trees.new.swept.place ≡ trees.old.swept.place }
+    ensures lines { IfOk result (λ lines. moment_rest lines ≡ history_at trees.old.case table.now trees.old.rowid trees.old.moment) }
+    ensures case { trees.new.case ≡ trees.old.case }
+    ensures place { trees.new.place ≡ trees.old.place }
     ensures rowid { trees.new.rowid ≡ trees.old.rowid }
 {
     let moment = trees.moment();
@@ -120,9 +119,11 @@ fn table_kept(
     trees: &mut TreeHistories<'_, '_>,
     name: &str,
 ) -> Result<Table, Refused>
-    ensures told { Gives table_by result (table_there trees.old.swept.case trees.old.swept.moment name.now) }
+    ensures told { Gives table_by result (table_there trees.old.case trees.old.moment name.now) }
     ensures may { IfErr result MayLack }
-    ensures swept { trees.new.swept ≡ trees.old.swept }
+    ensures case { trees.new.case ≡ trees.old.case }
+    ensures place { trees.new.place ≡ trees.old.place }
+    ensures moment { trees.new.moment ≡ trees.old.moment }
     ensures rowid { trees.new.rowid ≡ trees.old.rowid }
 {
     let snapshot = trees.snapshot();
@@ -141,11 +142,13 @@ fn table_read(
     snapshot: &Snapshot<'_, '_>,
     name: &str,
 ) -> Result<Table, Refused>
-    requires case { snapshot.now.case.now ≡ trees.old.swept.case }
-    requires moment { snapshot.now.moment ≡ trees.old.swept.moment }
-    ensures told { Gives table_by result (table_named trees.old.swept.case trees.old.swept.moment name.now) }
+    requires case { snapshot.now.case.now ≡ trees.old.case }
+    requires moment { snapshot.now.moment ≡ trees.old.moment }
+    ensures told { Gives table_by result (table_named trees.old.case trees.old.moment name.now) }
     ensures may { IfErr result MayLack }
-    ensures swept { trees.new.swept ≡ trees.old.swept }
+    ensures case { trees.new.case ≡ trees.old.case }
+    ensures place { trees.new.place ≡ trees.old.place }
+    ensures moment { trees.new.moment ≡ trees.old.moment }
     ensures rowid { trees.new.rowid ≡ trees.old.rowid }
 {
     if is_schema_name(name.as_bytes()) {
@@ -197,9 +200,9 @@ fn rows_of_table<'c, 'a>(
     trees: &mut TreeHistories<'c, 'a>,
     table: Table,
 ) -> Result<MomentLines<'c, 'a>, AllocError>
-    ensures lines { IfOk result (λ lines. moment_rest lines ≡ row_lines trees.old.swept.moment (size_at trees.old.swept.case trees.old.swept.moment) (view_of trees.old.swept.case trees.old.swept.moment) (layout_of trees.old.swept.case trees.old.swept.moment).usable (encoding_at trees.old.swept.case trees.old.swept.moment) (table_by table).root (table_by table).columns trees.old.rowid) }
-    ensures case { trees.new.swept.case ≡ trees.old.swept.case }
-    ensures place { trees.new.swept.place ≡ trees.old.swept.place }
+    ensures lines { IfOk result (λ lines. moment_rest lines ≡ row_lines trees.old.moment (size_at trees.old.case trees.old.moment) (view_of trees.old.case trees.old.moment) (layout_of trees.old.case trees.old.moment).usable (encoding_at trees.old.case trees.old.moment) (table_by table).root (table_by table).columns trees.old.rowid) }
+    ensures case { trees.new.case ≡ trees.old.case }
+    ensures place { trees.new.place ≡ trees.old.place }
     ensures rowid { trees.new.rowid ≡ trees.old.rowid }
 {
     let snapshot = trees.snapshot();

@@ -1,4 +1,4 @@
--- What the trees of a table hold under a rowid, moment after moment: what is kept on the way.
+-- What the trees of a table hold under a rowid, moment after moment: what is kept on the way of a sweep.
 use Rattle.std.specs.Prelude.{◌≡◌, ℕ, ℤ, ◌-◌, ◌≤◌, List, map, Option, None, Some, ⊤}
 use Rattle.sx_base.specs.declared.moment.Moment.{Moment}
 use Rattle.sx_history.specs.History.{faults_of, found_of}
@@ -10,7 +10,7 @@ use Rattle.sx_schema.specs.Entries.{Entry}
 
 -- the moments of a case as far as they were gone over, the rowid that is looked for, and the entries of the schema that was read
 -- last, if one was
-pub record Tracked : Type 0 where
+pub record OverSweep : Type 0 where
   pub swept : Swept
   pub rowid : ℤ
   pub entries : Option (List Entry)

@@ -5,6 +5,7 @@ mod lack;
 mod moment_lines;
 mod row_lines;
 mod schemas;
+mod swept_trees;
 mod texts;
 mod trees;
 

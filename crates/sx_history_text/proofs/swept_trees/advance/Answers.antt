@@ -3,7 +3,7 @@ use Rattle.std.specs.List.{All}
 use Rattle.sx_moment.specs.Views.{view_of}
 use Rattle.sx_history.specs.Standing.{Covers, StandBut}
 use Rattle.sx_history_text.proofs.Sweeping.{covered, all_ranks, stands}
-use Rattle.sx_history_text.proofs.trees.advance.Goals as goal
+use Rattle.sx_history_text.proofs.swept_trees.advance.Goals as goal
 
 pub advance-requires : goal.advance-requires
 advance-requires c κs =

@@ -3,7 +3,7 @@ use Rattle.std.specs.List.Sorted.{IsStrictlyIncreasing}
 use Rattle.sx_moment.specs.Views.{view_of}
 use Rattle.sx_history.specs.Standing.{Covers}
 use Rattle.sx_history_text.proofs.Sweeping.{covered}
-use Rattle.sx_history_text.proofs.trees.start.Goals as goal
+use Rattle.sx_history_text.proofs.swept_trees.start.Goals as goal
 
 pub start-requires : goal.start-requires
 start-requires c κs =

@@ -2,7 +2,7 @@ use Rattle.std.proofs.Common.{◌≡◌, ◌∙◌, subst, sym, arith, w64, to_z
 use Rattle.std.proofs.Math.Facts.{to_z-of_z}
 use Rattle.sx_history_text.specs.Trees.{IsAt}
 use Rattle.sx_history_text.proofs.Sweeping.{behind_now}
-use Rattle.sx_history_text.proofs.trees.TreeHistories.history.Goals as goal
+use Rattle.sx_history_text.proofs.swept_trees.SweptTrees.history.Goals as goal
 
 pub invariant_of-self-2 : goal.invariant_of-self-2
 invariant_of-self-2 c =
