@@ -6,7 +6,6 @@ ghost use Rattle.sx_moment.specs.Sweep.{GoesOn, moment_at};
 ghost use Rattle.sx_moment.specs.Views.{view_of};
 ghost use Rattle.sx_schema.specs.Entries.{schema_of};
 ghost use Rattle.sx_schema.specs.Given.{entries_by};
-ghost use Rattle.sx_history_text.specs.Schemas.{HasViews, IsReadBehind, TellsSchema};
 
 use std::alloc::{AllocError, Global};
 use std::marker::Model;
@@ -15,6 +14,7 @@ use sx_bytes::Encoding;
 use sx_history::SchemaWalk;
 use sx_moment::{Case, Sweep};
 use sx_schema::Schema;
+use sx_schemas::walk_schema;
 
 /// The schemas of the moments of a case, from the first on.
 ///
@@ -29,7 +29,8 @@ pub(crate) struct Schemas<'c, 'a> {
 
 impl<'c, 'a> Model for Schemas<'c, 'a> {
     ghost use Rattle.std.specs.Option.{option_map};
-    ghost use Rattle.sx_history_text.specs.Schemas.{IsReadBehind, Reads};
+    ghost use Rattle.sx_history_text.specs.Schemas.{Reads};
+    ghost use Rattle.sx_schemas.specs.Behind.{IsReadBehind};
 
     ghost Value = { Reads };
 
@@ -82,7 +83,7 @@ impl<'c, 'a> Schemas<'c, 'a> {
         ensures moment { self.new.swept.moment ≡ self.old.swept.moment }
     {
         let _moment = self.sweep.moment();
-        let walk = read_to(self.alloc, &self.sweep, self.walk.take(), usable, encoding)?;
+        let walk = walk_schema(self.alloc, &self.sweep, self.walk.take(), usable, encoding)?;
         self.sweep.settled();
         self.walk = Some(walk);
         Ok(())
@@ -97,65 +98,4 @@ impl<'c, 'a> Schemas<'c, 'a> {
             None => None,
         }
     }
-}
-
-/// The walk over schemas at the moment in hand.
-fn read_to<'a>(
-    alloc: Global,
-    sweep: &Sweep<'_, 'a>,
-    walk: Option<SchemaWalk<'a>>,
-    usable: u32,
-    encoding: Encoding,
-) -> Result<SchemaWalk<'a>, AllocError>
-    requires least { 480 ≤ usable }
-    requires within { usable ≤ sweep.now.case.header.page_size }
-    requires small { sweep.now.case.header.page_size ≤ 65536 }
-    requires behind { IsReadBehind sweep.now walk }
-    ensures { IfOk result (TellsSchema sweep.now.case sweep.now.moment sweep.now.numbers usable encoding) }
-{
-    // That the moment has a snapshot says that it is one of the case.
-    let _snapshot = sweep.snapshot();
-    match walk {
-        None => read_first(alloc, sweep, usable, encoding),
-        Some(walk) => read_on(sweep, walk, usable, encoding),
-    }
-}
-
-/// The walk over schemas, begun at the moment in hand.
-fn read_first<'a>(
-    alloc: Global,
-    sweep: &Sweep<'_, 'a>,
-    usable: u32,
-    encoding: Encoding,
-) -> Result<SchemaWalk<'a>, AllocError>
-    requires listed { IsTrue (is_moment sweep.now.case sweep.now.moment) }
-    requires least { 480 ≤ usable }
-    requires within { usable ≤ sweep.now.case.header.page_size }
-    requires small { sweep.now.case.header.page_size ≤ 65536 }
-    ensures { IfOk result (TellsSchema sweep.now.case sweep.now.moment sweep.now.numbers usable encoding) }
-{
-    let numbers = sweep.numbers();
-    let walk = SchemaWalk::start(alloc, sweep, numbers, usable, encoding)?;
-    Ok(walk)
-}
-
-/// The walk over schemas, gone on to the moment in hand from the last settled one.
-fn read_on<'a>(
-    sweep: &Sweep<'_, 'a>,
-    walk: SchemaWalk<'a>,
-    usable: u32,
-    encoding: Encoding,
-) -> Result<SchemaWalk<'a>, AllocError>
-    requires listed { IsTrue (is_moment sweep.now.case sweep.now.moment) }
-    requires least { 480 ≤ usable }
-    requires within { usable ≤ sweep.now.case.header.page_size }
-    requires small { sweep.now.case.header.page_size ≤ 65536 }
-    requires settled { 1 ≤ sweep.now.settled }
-    requires behind { HasViews sweep.now.case (moment_at sweep.now.case (sweep.now.settled - 1)) sweep.now.numbers walk }
-    ensures { IfOk result (TellsSchema sweep.now.case sweep.now.moment sweep.now.numbers usable encoding) }
-{
-    let _numbers = sweep.numbers();
-    let mut walk = walk;
-    walk.advance(sweep, sweep.changed(), usable, encoding)?;
-    Ok(walk)
 }

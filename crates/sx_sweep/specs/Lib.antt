@@ -3,3 +3,4 @@ pub mod Owning
 pub mod Told
 pub mod Moments
 pub mod Passing
+pub mod Behind

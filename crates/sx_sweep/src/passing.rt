@@ -1,5 +1,6 @@
 //! The moments of a case, one after the other.
 ghost use Rattle.std.specs.Prelude.{◌≡◌, ◌-◌, ◌++◌, ◌∷◌, ℕ, [], Some, None, map, slice_get, IfOk, OnOk};
+ghost use Rattle.std.specs.Option.{option_map};
 ghost use Rattle.sx_header.specs.declared.header.Header.{Header};
 ghost use Rattle.sx_images.specs.Images.{images_of};
 ghost use Rattle.sx_closure.specs.Tallying.{IsTableOf};
@@ -8,6 +9,8 @@ ghost use Rattle.sx_moment.specs.Heads.{layout_of, IsLayout};
 ghost use Rattle.sx_sweep.specs.Growth.{Grows};
 ghost use Rattle.sx_sweep.specs.Moments.{totals_by, totals_at};
 ghost use Rattle.sx_sweep.specs.Owning.{graph_at, moment_owns, moment_begins, owned_under, block_under};
+ghost use Rattle.sx_schemas.specs.Behind.{HasViews, IsReadBehind};
+ghost use Rattle.sx_sweep.specs.Behind.{IsBehind};
 ghost use Rattle.sx_sweep.specs.Passing.{IsKnown, IsBefore, IsReached, IsHeaded};
 
 use crate::headed::go_over;
@@ -15,11 +18,19 @@ use crate::known::Known;
 use crate::totals::MomentTotals;
 use std::alloc::{AllocError, Global};
 use sx_base::{Layout, Pages};
+use sx_history::SchemaWalk;
 use sx_images::ImageTable;
 use sx_moment::Sweep;
-use sx_schema::schema;
+use sx_schemas::walk_schema;
 use sx_sums::moment_totals;
 use sx_walk::RefWalk;
+
+/// What stands at the last settled moment: the references, and the schema that gave their roots.
+#[derive(Drop)]
+pub struct Behind<'a> {
+    pub walk: RefWalk<'a>,
+    pub schemas: SchemaWalk<'a>,
+}
 
 /// What is known after some moments: of their pages, how many bytes were usable at the last one with a header, and the totals
 /// of each.
@@ -44,25 +55,25 @@ pub fn add_moments(
     ensures grows { OnOk result (Grows pass.old.known.owned pass.new.known.owned (owned_under sweep.old.case (images_of images.now) (moments_of sweep.old.case)) (block_under sweep.old.case (images_of images.now) (moments_of sweep.old.case))) }
     ensures totals { OnOk result (pass.new.totals.items ≡ map (totals_at sweep.old.case) (moments_of sweep.old.case)) }
 {
-    let mut walk = add_moment(alloc, sweep, images, None, pass)?;
+    let mut behind = add_moment(alloc, sweep, images, None, pass)?;
     while sweep.next() {
-        walk = add_moment(alloc, sweep, images, walk, pass)?;
+        behind = add_moment(alloc, sweep, images, behind, pass)?;
     }
     Ok(())
 }
 
-/// Adds the moment in hand. Answers the references at the last one with a header.
+/// Adds the moment in hand. Answers what stands at the last one with a header.
 #[tactic(auto, unfolding(crate::specs::Moments::totals_at, crate::specs::Owning::moment_owns, crate::specs::Owning::moment_begins))]
 fn add_moment<'a>(
     alloc: Global,
     sweep: &mut Sweep<'_, 'a>,
     images: &ImageTable,
-    walk: Option<RefWalk<'a>>,
+    behind: Option<Behind<'a>>,
     pass: &mut Pass,
-) -> Result<Option<RefWalk<'a>>, AllocError>
+) -> Result<Option<Behind<'a>>, AllocError>
     requires pages { images.now.page_size ≡ sweep.old.case.header.page_size }
     requires known { IsKnown sweep.old.case sweep.old.numbers images.now pass.old.known.owned pass.old.known.sums }
-    requires before { IsBefore sweep.old walk pass.old.usable pass.old.known.sums }
+    requires before { IsBehind sweep.old behind pass.old.usable pass.old.known.sums }
     ensures case { sweep.new.case ≡ sweep.old.case }
     ensures place { sweep.new.place ≡ sweep.old.place }
     ensures numbers { sweep.new.numbers ≡ sweep.old.numbers }
@@ -70,47 +81,61 @@ fn add_moment<'a>(
     ensures grows { IfOk result (λ next. Grows pass.old.known.owned pass.new.known.owned (λ image at. moment_owns sweep.old.case (images_of images.now) image at sweep.old.moment) (λ image at. moment_begins sweep.old.case (images_of images.now) image at sweep.old.moment)) }
     ensures totals { IfOk result (λ next. pass.new.totals.items ≡ pass.old.totals.items ++ totals_at sweep.old.case sweep.old.moment ∷ []) }
     ensures known { IfOk result (λ next. IsKnown sweep.old.case sweep.old.numbers images.now pass.new.known.owned pass.new.known.sums) }
-    ensures before { IfOk result (λ next. IsBefore sweep.new next pass.new.usable pass.new.known.sums) }
+    ensures before { IfOk result (λ next. IsBehind sweep.new next pass.new.usable pass.new.known.sums) }
 {
     let _moment = sweep.moment();
     if sweep.snapshot().head().is_none() {
         pass.totals.push(None)?;
-        return Ok(walk);
+        return Ok(behind);
     }
-    let walk = add_headed(alloc, sweep, images, walk, pass)?;
+    let behind = add_headed(alloc, sweep, images, behind, pass)?;
     sweep.settled();
-    Ok(Some(walk))
+    Ok(Some(behind))
 }
 
-/// Adds a moment that has a header. Answers the references there.
+/// Adds a moment that has a header. Answers what stands there.
 fn add_headed<'a>(
     alloc: Global,
     sweep: &Sweep<'_, 'a>,
     images: &ImageTable,
-    walk: Option<RefWalk<'a>>,
+    behind: Option<Behind<'a>>,
     pass: &mut Pass,
-) -> Result<RefWalk<'a>, AllocError>
+) -> Result<Behind<'a>, AllocError>
     requires pages { images.now.page_size ≡ sweep.now.case.header.page_size }
     requires known { IsKnown sweep.now.case sweep.now.numbers images.now pass.old.known.owned pass.old.known.sums }
-    requires before { IsBefore sweep.now walk pass.old.usable pass.old.known.sums }
-    ensures headed { IfOk result (IsHeaded sweep.now.case sweep.now.moment sweep.now.numbers images.now pass.old.known.owned pass.new.known.owned pass.new.known.sums) }
+    requires before { IsBehind sweep.now behind pass.old.usable pass.old.known.sums }
+    ensures headed { IfOk result (λ next. IsHeaded sweep.now.case sweep.now.moment sweep.now.numbers images.now pass.old.known.owned pass.new.known.owned pass.new.known.sums next.walk) }
+    ensures read { IfOk result (λ next. HasViews sweep.now.case sweep.now.moment sweep.now.numbers next.schemas) }
     ensures usable { IfOk result (λ next. pass.new.usable ≡ (layout_of sweep.now.case sweep.now.moment).usable) }
     ensures totals { IfOk result (λ next. (head : Header) → pass.new.totals.items ≡ pass.old.totals.items ++ totals_by sweep.now.case sweep.now.moment (Some head) ∷ []) }
 {
     let layout = sweep.snapshot().layout();
-    let walk = walk_on(
+    let (walk, schemas) = apart(behind);
+    let behind = walk_on(
         alloc,
         sweep,
         images,
         &layout,
         walk,
+        schemas,
         pass.usable,
         &mut pass.known,
     )?;
-    let here = headed_totals(sweep, images, &layout, &walk, &pass.known);
+    let here = headed_totals(sweep, images, &layout, &behind.walk, &pass.known);
     pass.usable = layout.usable;
     pass.totals.push(Some(here))?;
-    Ok(walk)
+    Ok(behind)
+}
+
+/// The references and the schema, each for itself.
+fn apart<'a>(behind: Option<Behind<'a>>) -> (Option<RefWalk<'a>>, Option<SchemaWalk<'a>>)
+    ensures walk { result.0 ≡ option_map (λ it. it.walk) behind.entry }
+    ensures schemas { result.1 ≡ option_map (λ it. it.schemas) behind.entry }
+{
+    match behind {
+        Some(behind) => (Some(behind.walk), Some(behind.schemas)),
+        None => (None, None),
+    }
 }
 
 /// Goes over the pages of a moment that has a header, with the references that its schema gives.
@@ -120,24 +145,28 @@ fn walk_on<'a>(
     images: &ImageTable,
     layout: &Layout,
     walk: Option<RefWalk<'a>>,
+    schemas: Option<SchemaWalk<'a>>,
     usable: u32,
     known: &mut Known,
-) -> Result<RefWalk<'a>, AllocError>
+) -> Result<Behind<'a>, AllocError>
     requires pages { images.now.page_size ≡ sweep.now.case.header.page_size }
     requires layout { layout.now ≡ layout_of sweep.now.case sweep.now.moment }
     requires laid { IsLayout layout.now }
     requires known { IsKnown sweep.now.case sweep.now.numbers images.now known.old.owned known.old.sums }
     requires before { IsBefore sweep.now walk usable known.old.sums }
-    ensures { IfOk result (IsHeaded sweep.now.case sweep.now.moment sweep.now.numbers images.now known.old.owned known.new.owned known.new.sums) }
+    requires read { IsReadBehind sweep.now schemas }
+    ensures headed { IfOk result (λ next. IsHeaded sweep.now.case sweep.now.moment sweep.now.numbers images.now known.old.owned known.new.owned known.new.sums next.walk) }
+    ensures read { IfOk result (λ next. HasViews sweep.now.case sweep.now.moment sweep.now.numbers next.schemas) }
 {
     // That the pages have a size says how long their views are, and that they have numbers where these stand.
     let _size = sweep.size();
     let _numbers = sweep.numbers();
     let snapshot = sweep.snapshot();
     snapshot.views_lie();
-    let schema = schema(alloc, sweep, layout.usable, snapshot.encoding())?;
-    let roots = schema.roots();
-    go_over(alloc, sweep, images, layout, roots, walk, usable, known)
+    let schemas = walk_schema(alloc, sweep, schemas, layout.usable, snapshot.encoding())?;
+    let roots = schemas.schema().roots();
+    let walk = go_over(alloc, sweep, images, layout, roots, walk, usable, known)?;
+    Ok(Behind { walk, schemas })
 }
 
 /// The totals of a moment whose pages were gone over.

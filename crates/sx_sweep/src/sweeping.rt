@@ -48,12 +48,13 @@ pub fn sweep(
 /// A byte is owned, and a freeblock begins, where [`sweep`] says it of all moments. The totals of a moment are those of the
 /// bytes of all its pages, and there are none where it has no header. The images have the page size of the case.
 ///
-/// At each moment with a header the schema is read, the references go on from those of the moment before, and the pages are
-/// gone over whose views changed or to which something else refers: a page whose view and key are those with which it was
-/// labelled last costs a look. Over all pages it goes at the first such moment, where it isn't known to which pages something
-/// else refers, and where the usable bytes are others than before. It takes 24 bytes a page for the walk, 64 for what each
-/// page was labelled with, what [`RefWalk`](sx_walk::RefWalk) takes, and 40 for each moment. It answers `AllocError` where
-/// memory runs out, and nothing else.
+/// At each moment with a header the schema is that of the moment before, or is read anew, the references go on from those of the
+/// moment before, and the pages are gone over whose views changed or to which something else refers: a page whose view and key
+/// are those with which it was labelled last costs a look. Over all pages it goes at the first such moment, where it isn't known
+/// to which pages something else refers, and where the usable bytes are others than before. It takes 24 bytes a page for the
+/// walk, 64 for what each page was labelled with, what [`RefWalk`](sx_walk::RefWalk) and
+/// [`SchemaWalk`](sx_history::SchemaWalk) take, and 40 for each moment. It answers `AllocError` where memory runs out, and
+/// nothing else.
 pub fn sweep_all(alloc: Global, case: &Case<'_>, images: &ImageTable) -> Result<Swept, AllocError>
     requires { images.now.page_size ≡ case.now.header.page_size }
     ensures count { IfOk result (λ swept. owned_images swept.owned ≡ length (images_of images.now)) }

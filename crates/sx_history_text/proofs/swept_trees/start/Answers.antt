@@ -2,7 +2,7 @@ use Rattle.std.proofs.Common.{refl, sym, subst}
 use Rattle.std.specs.List.Sorted.{IsStrictlyIncreasing}
 use Rattle.sx_moment.specs.Views.{view_of}
 use Rattle.sx_history.specs.Standing.{Covers}
-use Rattle.sx_history_text.proofs.Sweeping.{covered}
+use Rattle.sx_schemas.proofs.Behind.{covered}
 use Rattle.sx_history_text.proofs.swept_trees.start.Goals as goal
 
 pub start-requires : goal.start-requires

@@ -9,14 +9,14 @@ loop-alloc-init c =
     record {
       case_is = c.add_moment.ensures.case;
       numbers_are = c.add_moment.ensures.numbers;
-      known = c.in_ok-walk.ensures.known;
-      before = c.in_ok-walk.ensures.before;
+      known = c.in_ok-behind.ensures.known;
+      before = c.in_ok-behind.ensures.before;
       growing =
           step_growing sweep.case sweep.case (images_of c.args.images.now) c.args.pass.now.known.owned c.args.pass.now.known.owned c.add_moment.new.pass.known.owned 0 sweep.place c.add_moment.new.sweep.place
-          sweep.moment refl (sym c.requires.first) c.add_moment.ensures.place c.add_moment.ensures.there (first_growing sweep.case (images_of c.args.images.now) c.args.pass.now.known.owned) c.in_ok-walk.ensures.grows;
+          sweep.moment refl (sym c.requires.first) c.add_moment.ensures.place c.add_moment.ensures.there (first_growing sweep.case (images_of c.args.images.now) c.args.pass.now.known.owned) c.in_ok-behind.ensures.grows;
       totals =
           step_totals sweep.case sweep.case c.args.pass.now.totals.items c.add_moment.new.pass.totals.items 0 sweep.place c.add_moment.new.sweep.place sweep.moment refl (sym c.requires.first)
-          c.add_moment.ensures.place c.add_moment.ensures.there (first_totals sweep.case c.args.pass.now.totals.items c.requires.none) c.in_ok-walk.ensures.totals;
+          c.add_moment.ensures.place c.add_moment.ensures.there (first_totals sweep.case c.args.pass.now.totals.items c.requires.none) c.in_ok-behind.ensures.totals;
     }
 
 pub loop-alloc-preserved : goal.loop-alloc-preserved
@@ -32,15 +32,15 @@ loop-alloc-preserved c =
       numbers_are = c.add_moment-in-loop-alloc.ensures.numbers ∙ same_numbers;
       known =
           known_on next.case sweep.case next.numbers sweep.numbers c.args.images.now c.add_moment-in-loop-alloc.new.pass.known.owned c.add_moment-in-loop-alloc.new.pass.known.sums
-          (sym same_case) (sym same_numbers) c.in_ok-walk-2.ensures.known;
-      before = c.in_ok-walk-2.ensures.before;
+          (sym same_case) (sym same_numbers) c.in_ok-behind-2.ensures.known;
+      before = c.in_ok-behind-2.ensures.before;
       growing =
           step_growing sweep.case next.case (images_of c.args.images.now) c.args.pass.now.known.owned c.loop-alloc.pass.known.owned c.add_moment-in-loop-alloc.new.pass.known.owned (last.place + 1) next.place
           c.add_moment-in-loop-alloc.new.sweep.place next.moment same_case (sym on.place) c.add_moment-in-loop-alloc.ensures.place c.add_moment-in-loop-alloc.ensures.there c.loop-alloc.invariant.growing
-          c.in_ok-walk-2.ensures.grows;
+          c.in_ok-behind-2.ensures.grows;
       totals =
           step_totals sweep.case next.case c.loop-alloc.pass.totals.items c.add_moment-in-loop-alloc.new.pass.totals.items (last.place + 1) next.place c.add_moment-in-loop-alloc.new.sweep.place next.moment
-          same_case (sym on.place) c.add_moment-in-loop-alloc.ensures.place c.add_moment-in-loop-alloc.ensures.there c.loop-alloc.invariant.totals c.in_ok-walk-2.ensures.totals;
+          same_case (sym on.place) c.add_moment-in-loop-alloc.ensures.place c.add_moment-in-loop-alloc.ensures.there c.loop-alloc.invariant.totals c.in_ok-behind-2.ensures.totals;
     }
 
 pub returns-clause-grows : goal.returns-clause-grows

@@ -1,4 +1,4 @@
-use Rattle.sx_history_text.proofs.Sweeping.{read_behind}
+use Rattle.sx_schemas.proofs.Behind.{read_behind}
 use Rattle.sx_history_text.proofs.schemas.Schemas.read.Goals as goal
 
 pub invariant_of-self-2 : goal.invariant_of-self-2

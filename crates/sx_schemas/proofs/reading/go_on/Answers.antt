@@ -2,8 +2,8 @@ use Rattle.std.proofs.Common.{◌<◌, length, refl, sym, subst}
 use Rattle.std.specs.List.{All}
 use Rattle.sx_moment.specs.Views.{view_of}
 use Rattle.sx_history.specs.Standing.{Covers, StandBut}
-use Rattle.sx_history_text.proofs.Sweeping.{covered, all_ranks, stands}
-use Rattle.sx_history_text.proofs.schemas.read_on.Goals as goal
+use Rattle.sx_schemas.proofs.Behind.{covered, all_ranks, stands}
+use Rattle.sx_schemas.proofs.reading.go_on.Goals as goal
 
 pub advance-requires : goal.advance-requires
 advance-requires c κs =

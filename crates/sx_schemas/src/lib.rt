@@ -1,0 +1,9 @@
+//! The schema, at one moment of a case after the other.
+#![tactic(auto)]
+
+mod reading;
+
+pub use reading::walk_schema;
+
+#[cfg(test)]
+mod tests;
