@@ -215,6 +215,23 @@ def one_row_commits(count):
     return statements
 
 
+def many_tables(tables, commits):
+    """So many tables, each but the first of a long text, and then so many transactions that each insert a row into the first."""
+
+    def statements(made):
+        made.execute("PRAGMA synchronous = OFF")
+        made.execute("BEGIN")
+        for number in range(tables):
+            columns = ", ".join(f"column_{place}_of_table_{number} TEXT" for place in range(1 if number == 0 else 8))
+            made.execute(f"CREATE TABLE table_{number}({columns})")
+        made.execute("COMMIT")
+        keep_log(made)
+        for number in range(commits):
+            made.execute("INSERT INTO table_0 VALUES (?)", (f"row {number}",))
+
+    return statements
+
+
 def keep_log(made):
     """Lets what is committed from here on stand in a log that is never checkpointed."""
     made.execute("PRAGMA journal_mode = WAL")

@@ -15,3 +15,4 @@ pub mod Drills
 pub mod Reports
 pub mod Loaded
 pub mod Owed
+pub mod Sought

@@ -17,6 +17,7 @@ mod moments;
 mod refusals;
 mod refused;
 mod reports;
+mod sought;
 mod tables;
 
 pub use completeness::answers_are_complete;

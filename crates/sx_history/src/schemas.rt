@@ -115,15 +115,15 @@ impl<'a> SchemaWalk<'a> {
     /// The schema of the moment before is kept, at the cost of a look at each changed page, where the size, the usable bytes and
     /// the encoding are the same, each page is held as before, and none that changed was a page of the schema's tree or an
     /// overflow page of its rows. Else it is read as by [`schema`], and each changed page of its tree once more; all pages of it
-    /// are, where the usable bytes are others. Where it answers `AllocError`, for want of memory, nothing more is said of the
-    /// walk but that it goes on.
+    /// are, where the usable bytes are others. It answers whether the schema was kept, and so is the same. Where it answers
+    /// `AllocError`, for want of memory, nothing more is said of the walk but that it goes on.
     pub fn advance<P: Pages<'a>>(
         &mut self,
         pages: &P,
         changed: &[u32],
         usable: u32,
         encoding: Encoding,
-    ) -> Result<(), AllocError>
+    ) -> Result<bool, AllocError>
         requires covered { Covers self.old.numbers (P.view pages.now) }
         requires ranks { All (λ rank. rank < length self.old.numbers) changed.now }
         requires stand { StandBut changed.now self.old.numbers self.old.views (P.view pages.now) }
@@ -132,6 +132,7 @@ impl<'a> SchemaWalk<'a> {
         requires small { P.page_size pages.now ≤ 65536 }
         ensures numbers { OnOk result (self.new.numbers ≡ self.old.numbers) }
         ensures stands { OnOk result (IsSchemaAt (P.pages pages.now) (P.view pages.now) usable encoding self.new) }
+        ensures kept { IfOk result (λ kept. kept ≡ true → self.new.entries ≡ self.old.entries) }
     {
         let size = pages.size();
         let read = Read {
@@ -152,7 +153,7 @@ impl<'a> SchemaWalk<'a> {
             &self.chains,
         ) {
             look_again(pages, &self.numbers, changed, &mut self.views);
-            return Ok(());
+            return Ok(true);
         }
         let fits = marks_fit(self.stands, self.read.usable, usable);
         self.stands = false;
@@ -174,7 +175,7 @@ impl<'a> SchemaWalk<'a> {
         self.schema = schema(self.alloc, pages, usable, encoding)?;
         self.read = read;
         self.stands = true;
-        Ok(())
+        Ok(false)
     }
 
     /// The schema of the moment.

@@ -10,6 +10,7 @@ ghost use Rattle.sx_history_text.specs.Histories.{found_printed, rows_lines};
 use crate::texts::{put_found, put_last_line};
 use std::alloc::{AllocError, Global};
 use std::marker::Model;
+use std::rc::Rc;
 use sx_base::Moment;
 use sx_bytes::Encoding;
 use sx_history::{Found, History};
@@ -25,7 +26,7 @@ pub struct RowLines<'c, 'a> {
     moment: Moment,
     usable: u32,
     encoding: Encoding,
-    shape: Option<Columns>,
+    shape: Rc<Option<Columns>>,
     history: History,
     at: usize,
     rows: u64,
@@ -47,14 +48,15 @@ impl<'c, 'a> Model for RowLines<'c, 'a> {
 
     ghost Value = { List (List ℕ) };
 
-    ghost view = { λ it. lines_from it.ended it.moment it.rows (faults_by it.history) (map (found_printed (size_at it.snapshot.case.now it.snapshot.moment) (view_of it.snapshot.case.now it.snapshot.moment) it.usable it.encoding (option_map columns_by it.shape)) (drop it.at (items_by it.history))) };
+    ghost view = { λ it. lines_from it.ended it.moment it.rows (faults_by it.history) (map (found_printed (size_at it.snapshot.case.now it.snapshot.moment) (view_of it.snapshot.case.now it.snapshot.moment) it.usable it.encoding (option_map columns_by it.shape.value)) (drop it.at (items_by it.history))) };
 
     ghost invariant = { λ it. IsListing (size_at it.snapshot.case.now it.snapshot.moment) (view_of it.snapshot.case.now it.snapshot.moment) it.snapshot.case.now.header.page_size it.usable it.lengths it.rows it.at };
 }
 
 impl<'c, 'a> RowLines<'c, 'a> {
     /// All lines of a moment at which this was found in the table's tree, over the moment's pages with so many usable bytes: from
-    /// 480 to the page size. The shape is that of the table's text, where this gives one; texts are in this encoding.
+    /// 480 to the page size. The shape is that of the table's text, where this gives one, and is shared by the moments at which it is
+    /// the same; texts are in this encoding.
     ///
     /// Each line is made when it is written.
     #[tactic(auto, using(crate::proofs::Listing::from_none))]
@@ -64,13 +66,13 @@ impl<'c, 'a> RowLines<'c, 'a> {
         moment: Moment,
         usable: u32,
         encoding: Encoding,
-        shape: Option<Columns>,
+        shape: Rc<Option<Columns>>,
         history: History,
     ) -> Self
         requires least { 480 ≤ usable }
         requires within { usable ≤ snapshot.case.now.header.page_size }
         requires small { snapshot.case.now.header.page_size ≤ 65536 }
-        ensures { result ≡ rows_lines moment (faults_by history) (map (found_printed (size_at snapshot.entry.case.now snapshot.entry.moment) (view_of snapshot.entry.case.now snapshot.entry.moment) usable encoding (option_map columns_by shape)) (items_by history)) }
+        ensures { result ≡ rows_lines moment (faults_by history) (map (found_printed (size_at snapshot.entry.case.now snapshot.entry.moment) (view_of snapshot.entry.case.now snapshot.entry.moment) usable encoding (option_map columns_by shape.value)) (items_by history)) }
     {
         let lengths = ChainLengths::new(alloc, &snapshot);
         RowLines {
@@ -127,7 +129,7 @@ impl<'c, 'a> Lines for RowLines<'c, 'a> {
             self.usable,
             self.encoding,
             self.moment,
-            &self.shape,
+            self.shape.as_ref(),
             &mut self.lengths,
             &mut self.room,
             &mut self.own,

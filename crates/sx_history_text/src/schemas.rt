@@ -66,27 +66,29 @@ impl<'c, 'a> Schemas<'c, 'a> {
         ensures more { IsTrue result ↔ (self.old.swept.place + 1 < length (moments_of self.old.swept.case)) }
         ensures next { result ≡ true → GoesOn self.old.swept self.new.swept }
         ensures last { result ≡ false → self.new.swept ≡ self.old.swept }
+        ensures entries { self.new.entries ≡ self.old.entries }
     {
         self.sweep.next()
     }
 
-    /// Reads the schema of the moment in hand, unless that of the moment before stands. The cost is that of
+    /// Reads the schema of the moment in hand, unless the one that was read last stands, and says whether that was so. The cost is that of
     /// [`SchemaWalk::start`] at the first one, and then that of [`SchemaWalk::advance`]. It answers `AllocError` where memory
     /// runs out.
-    pub(crate) fn read(&mut self, usable: u32, encoding: Encoding) -> Result<(), AllocError>
+    pub(crate) fn read(&mut self, usable: u32, encoding: Encoding) -> Result<bool, AllocError>
         requires least { 480 ≤ usable }
         requires within { usable ≤ self.old.swept.case.header.page_size }
         requires small { self.old.swept.case.header.page_size ≤ 65536 }
         ensures entries { OnOk result (self.new.entries ≡ Some (schema_of (size_at self.old.swept.case self.old.swept.moment) (view_of self.old.swept.case self.old.swept.moment) usable encoding)) }
+        ensures kept { IfOk result (λ kept. kept ≡ true → self.new.entries ≡ self.old.entries) }
         ensures case { self.new.swept.case ≡ self.old.swept.case }
         ensures place { self.new.swept.place ≡ self.old.swept.place }
         ensures moment { self.new.swept.moment ≡ self.old.swept.moment }
     {
         let _moment = self.sweep.moment();
-        let walk = walk_schema(self.alloc, &self.sweep, self.walk.take(), usable, encoding)?;
+        let here = walk_schema(self.alloc, &self.sweep, self.walk.take(), usable, encoding)?;
         self.sweep.settled();
-        self.walk = Some(walk);
-        Ok(())
+        self.walk = Some(here.walk);
+        Ok(here.kept)
     }
 
     /// The schema that was read last, if one was.

@@ -85,6 +85,7 @@ impl<'c, 'a> SweptTrees<'c, 'a> {
         ensures next { result ≡ true → GoesOn self.old.swept self.new.swept }
         ensures last { result ≡ false → self.new.swept ≡ self.old.swept }
         ensures rowid { self.new.rowid ≡ self.old.rowid }
+        ensures entries { self.new.entries ≡ self.old.entries }
     {
         let more = self.sweep.next();
         self.schemas.next();
@@ -92,15 +93,20 @@ impl<'c, 'a> SweptTrees<'c, 'a> {
     }
 
     /// Reads the schema of the moment in hand, over pages with so many usable bytes, from 480 to the page size, and with this
-    /// encoding of texts, unless that of the moment before stands.
+    /// encoding of texts, unless the one that was read last stands, and says whether that was so.
     ///
     /// The cost is that of [`SchemaWalk::start`](sx_history::SchemaWalk::start) at the first one, and then that of
     /// [`SchemaWalk::advance`](sx_history::SchemaWalk::advance). It answers `AllocError` where memory runs out.
-    pub(crate) fn read_schema(&mut self, usable: u32, encoding: Encoding) -> Result<(), AllocError>
+    pub(crate) fn read_schema(
+        &mut self,
+        usable: u32,
+        encoding: Encoding,
+    ) -> Result<bool, AllocError>
         requires least { 480 ≤ usable }
         requires within { usable ≤ self.old.swept.case.header.page_size }
         requires small { self.old.swept.case.header.page_size ≤ 65536 }
         ensures entries { OnOk result (self.new.entries ≡ Some (schema_of (size_at self.old.swept.case self.old.swept.moment) (view_of self.old.swept.case self.old.swept.moment) usable encoding)) }
+        ensures kept { IfOk result (λ kept. kept ≡ true → self.new.entries ≡ self.old.entries) }
         ensures swept { self.new.swept ≡ self.old.swept }
         ensures rowid { self.new.rowid ≡ self.old.rowid }
     {
@@ -131,6 +137,7 @@ impl<'c, 'a> SweptTrees<'c, 'a> {
         ensures place { self.new.swept.place ≡ self.old.swept.place }
         ensures moment { self.new.swept.moment ≡ self.old.swept.moment }
         ensures rowid { self.new.rowid ≡ self.old.rowid }
+        ensures entries { self.new.entries ≡ self.old.entries }
     {
         let _moment = self.sweep.moment();
         let walk = walk_to(

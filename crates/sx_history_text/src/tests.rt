@@ -4,6 +4,7 @@ ghost use Rattle.std.specs.Prelude.{◌≡◌};
 use super::*;
 use std::alloc::Global;
 use std::process::Abort;
+use std::rc::Rc;
 use std::test::Fail;
 use sx_base::Moment;
 use sx_bytes::Encoding;
@@ -48,7 +49,8 @@ fn tell_rows(rt: &impl Abort, alloc: Global, case: &Case<'_>, out: &mut Tray) ->
     let history = trees.history(512, 2)?;
     let moment = trees.moment();
     let snapshot = trees.snapshot();
-    let rows = RowLines::new(alloc, snapshot, moment, 512, Encoding::Utf8, None, history);
+    let shape = Rc::new(alloc, None)?;
+    let rows = RowLines::new(alloc, snapshot, moment, 512, Encoding::Utf8, shape, history);
     assert_eq!(rt;
         write_lines(alloc, &mut MomentLines::Rows(rows), out),
         Ok(())

@@ -108,6 +108,7 @@ impl<'c, 'a> TreeHistories<'c, 'a> {
         ensures next { result ≡ true → Follows self.old self.new }
         ensures last { result ≡ false → self.new ≡ self.old }
         ensures rowid { self.new.rowid ≡ self.old.rowid }
+        ensures entries { self.new.entries ≡ self.old.entries }
     {
         let moments = self.case.moments();
         if self.place + 1 >= moments {
@@ -122,16 +123,17 @@ impl<'c, 'a> TreeHistories<'c, 'a> {
     }
 
     /// Reads the schema of the moment in hand, over pages with so many usable bytes, from 480 to the page size, and with this
-    /// encoding of texts, unless that of the moment before is known to stand.
+    /// encoding of texts, unless the one that was read last is known to stand, and says whether that was so.
     ///
     /// Where the moments are gone over by sweeps the cost is that of [`SchemaWalk::start`](sx_history::SchemaWalk::start) at the
     /// first one, and then that of [`SchemaWalk::advance`](sx_history::SchemaWalk::advance), else that of [`schema`]. It answers
     /// `AllocError` where memory runs out.
-    pub fn read_schema(&mut self, usable: u32, encoding: Encoding) -> Result<(), AllocError>
+    pub fn read_schema(&mut self, usable: u32, encoding: Encoding) -> Result<bool, AllocError>
         requires least { 480 ≤ usable }
         requires within { usable ≤ self.old.case.header.page_size }
         requires small { self.old.case.header.page_size ≤ 65536 }
         ensures entries { OnOk result (self.new.entries ≡ Some (schema_of (size_at self.old.case self.old.moment) (view_of self.old.case self.old.moment) usable encoding)) }
+        ensures kept { IfOk result (λ kept. kept ≡ true → self.new.entries ≡ self.old.entries) }
         ensures case { self.new.case ≡ self.old.case }
         ensures place { self.new.place ≡ self.old.place }
         ensures moment { self.new.moment ≡ self.old.moment }
@@ -144,7 +146,7 @@ impl<'c, 'a> TreeHistories<'c, 'a> {
             }
             Way::Alone(last) => {
                 *last = Some(schema(self.alloc, &self.snapshot, usable, encoding)?);
-                Ok(())
+                Ok(false)
             }
         }
     }
@@ -175,6 +177,7 @@ impl<'c, 'a> TreeHistories<'c, 'a> {
         ensures place { self.new.place ≡ self.old.place }
         ensures moment { self.new.moment ≡ self.old.moment }
         ensures rowid { self.new.rowid ≡ self.old.rowid }
+        ensures entries { self.new.entries ≡ self.old.entries }
     {
         match &mut self.way {
             Way::Swept(trees) => {

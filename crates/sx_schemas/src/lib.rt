@@ -3,7 +3,7 @@
 
 mod reading;
 
-pub use reading::walk_schema;
+pub use reading::{SchemaHere, walk_schema};
 
 #[cfg(test)]
 mod tests;

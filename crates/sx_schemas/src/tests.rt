@@ -36,8 +36,9 @@ fn look(rt: &impl Abort, alloc: Global, case: &Case<'_>) -> Result<(), Fail>
     requires { case.now.header.page_size ≡ 512 }
 {
     let sweep = case.sweep(alloc)?;
-    let walk = walk_schema(alloc, &sweep, None, 512, Encoding::Utf8)?;
-    assert_eq!(rt; walk.schema().roots(), [2].as_slice());
+    let here = walk_schema(alloc, &sweep, None, 512, Encoding::Utf8)?;
+    assert!(rt; !here.kept);
+    assert_eq!(rt; here.walk.schema().roots(), [2].as_slice());
     Ok(())
 }
 

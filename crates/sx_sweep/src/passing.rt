@@ -163,10 +163,13 @@ fn walk_on<'a>(
     let _numbers = sweep.numbers();
     let snapshot = sweep.snapshot();
     snapshot.views_lie();
-    let schemas = walk_schema(alloc, sweep, schemas, layout.usable, snapshot.encoding())?;
-    let roots = schemas.schema().roots();
+    let here = walk_schema(alloc, sweep, schemas, layout.usable, snapshot.encoding())?;
+    let roots = here.walk.schema().roots();
     let walk = go_over(alloc, sweep, images, layout, roots, walk, usable, known)?;
-    Ok(Behind { walk, schemas })
+    Ok(Behind {
+        walk,
+        schemas: here.walk,
+    })
 }
 
 /// The totals of a moment whose pages were gone over.

@@ -20,7 +20,7 @@ returns-clause-headed c =
     (c.roots-roots.ensures
     ∙ ap roots_of
     (c.schema.ensures
-    ∙ c.in_ok-schemas.ensures.entries
+    ∙ c.in_ok-here.ensures.tells.entries
     ∙ ap (schema_of (size_at sweep.case sweep.moment) (view_of sweep.case sweep.moment) c.args.layout.now.usable)
     (c.encoding.ensures ∙ encoding_here sweep.case snapshot.case.now sweep.moment snapshot.moment same_case same_moment)))
     (record {
