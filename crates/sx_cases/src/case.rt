@@ -1,4 +1,6 @@
 //! A worked case.
+ghost use Rattle.std.specs.Prelude.{◌≡◌, [], None, false, position, string_bytes};
+ghost use Rattle.std.specs.Str.{bytes_eq};
 
 use std::alloc::Global;
 use sx_edge::Trip;
@@ -46,7 +48,17 @@ pub struct Places {
 
 impl Case {
     /// A case of which only the name is known.
-    pub fn new(alloc: Global, name: String) -> Case {
+    pub fn new(alloc: Global, name: String) -> Case
+        ensures name { result.name ≡ name }
+        ensures files { result.files.items ≡ [] }
+        ensures words { result.words.items ≡ [] }
+        ensures pieces { result.pieces ≡ 65536 }
+        ensures each_room { result.each_room ≡ false }
+        ensures faults { result.faults.items ≡ [] }
+        ensures each_place { result.each_place ≡ None }
+        ensures status { result.status ≡ None }
+        ensures text { string_bytes result.text ≡ [] }
+    {
         Case {
             name,
             files: Vec::new(alloc),
@@ -60,15 +72,12 @@ impl Case {
         }
     }
 
-    /// The number of a file of the store, where it has one of that name.
-    pub fn number(&self, name: &str) -> Option<u32> {
-        let mut number = 0_u32;
-        for file in &self.files {
-            if file.name.as_str() == name {
-                return Some(number);
-            }
-            number = number.saturating_add(1);
-        }
-        None
+    /// The place among the files of the store, from 0, of the first one of that name, if there is one.
+    pub fn place(&self, name: &str) -> Option<usize>
+        ensures { result ≡ position (λ file. bytes_eq (string_bytes file.name) name.now) self.now.files.items }
+    {
+        self.files
+            .iter()
+            .position(|file| file.name.as_str() == name)
     }
 }

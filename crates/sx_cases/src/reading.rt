@@ -110,7 +110,7 @@ fn read_fault(rest: &str, case: &mut Case) -> io::Result<bool> {
     let (when, behind) = rest.split_once(' ').unwrap_or((rest, ""));
     let (name, place) = behind.split_once(' ').unwrap_or((behind, "0"));
     let (each, last) = place.split_once(' ').unwrap_or(("", place));
-    let (Some(file), Ok(last)) = (case.number(name), last.parse::<u64>()) else {
+    let (Some(file), Ok(last)) = (file_number(case, name), last.parse::<u64>()) else {
         return Ok(false);
     };
     match (when, each) {
@@ -120,4 +120,12 @@ fn read_fault(rest: &str, case: &mut Case) -> io::Result<bool> {
         _ => return Ok(false),
     }
     Ok(true)
+}
+
+// The number of the file of that name, as a failure names it.
+fn file_number(case: &Case, name: &str) -> Option<u32> {
+    match case.place(name) {
+        Some(place) => u32::try_from(place).ok(),
+        None => None,
+    }
 }
